@@ -1,0 +1,12 @@
+pub mod Along
+pub mod Status
+pub mod Words
+pub mod Reading
+pub mod ReadingRange
+pub mod GoodLines
+pub mod Judged
+pub mod Frames
+pub mod Fusion
+pub mod Reference
+pub mod Blocks
+pub mod Outcome

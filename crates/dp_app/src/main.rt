@@ -1,0 +1,60 @@
+//! `dp replay RECORD` replays a record of position readings on one computer, and prints what the control law demands in each cycle.
+//!
+//! All of it is [`run`], which is proved over whatever holds the files and takes the text; `main` makes the real ones and calls it.
+#![tactic(auto)]
+
+mod blocks;
+mod built_in;
+mod cycles;
+mod fusion;
+mod judging;
+mod law;
+mod program;
+mod reading;
+mod replay;
+mod status;
+mod step;
+#[cfg(test)]
+mod tests;
+mod words;
+
+use dp_shell::{FileShelf, StdSink};
+pub use program::run;
+pub use status::Status;
+use std::alloc::{AllocError, Global};
+use std::process::ExitCode;
+use std::{env, io};
+
+/// The words after the program's name.
+fn arguments(rt: &HostRuntime) -> io::Result<Vec<String>> {
+    let mut words = Vec::new(rt.alloc());
+    for word in env::args(rt)?.skip(1) {
+        words.push(word)?;
+    }
+    Ok(words)
+}
+
+fn texts<'a>(alloc: Global, words: &'a [String]) -> Result<Vec<&'a str>, AllocError> {
+    let mut texts = Vec::new(alloc);
+    for word in words {
+        texts.push(word.as_str())?;
+    }
+    Ok(texts)
+}
+
+fn main(rt: HostRuntime) -> ExitCode {
+    let words = match arguments(&rt) {
+        Ok(words) => words,
+        Err(e) if e.kind() == io::ErrorKind::OutOfMemory => return ExitCode::from(
+            Status::Memory.code(),
+        ),
+        Err(_) => return ExitCode::from(1),
+    };
+    let Ok(words) = texts(rt.alloc(), &words) else {
+        return ExitCode::from(Status::Memory.code());
+    };
+    let mut shelf = FileShelf::new(&rt, &words);
+    let mut out = StdSink::new(&rt);
+    let status = run(rt.alloc(), &words, &mut shelf, &mut out);
+    ExitCode::from(status.code())
+}

@@ -1,0 +1,4 @@
+pub mod Divisions
+pub mod Clamps
+pub mod Wraps
+pub mod RootsUp

@@ -1,0 +1,13 @@
+pub mod Products
+pub mod Entries
+pub mod Sizes
+pub mod Rest
+pub mod Bilinear
+pub mod Expansion
+pub mod Dominance
+pub mod Shown
+pub mod Triangle
+pub mod Mix
+pub mod Axes
+pub mod Clamp
+pub mod Literals

@@ -1,0 +1,11 @@
+pub mod Vectors
+pub mod Form
+pub mod Range
+pub mod Residual
+pub mod Shown
+pub mod Dominance
+pub mod Scaling
+pub mod Triangle
+pub mod Mix
+pub mod Axes
+pub mod Clamp

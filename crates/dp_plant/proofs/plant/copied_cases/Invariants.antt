@@ -1,0 +1,5 @@
+use Rattle.std.proofs.Common.{◌≡◌, take}
+use Rattle.dp_plant.proofs.plant.copied_cases.Given as goal
+
+abbrev pub invariant-loop-case : goal.invariant-loop-case
+invariant-loop-case l = l.copy.items ≡ take l.case-index l.case-items

@@ -1,0 +1,6 @@
+pub mod Hearing
+pub mod Naming
+pub mod Phrases
+pub mod Pushes
+pub mod Reading
+pub mod Spans

@@ -1,0 +1,55 @@
+-- The lines of a text, heard one after another.
+use Rattle.std.proofs.Common.{◌≡◌, ℕ, List, [], ◌∷◌, ◌++◌, reverse, Some, None, refl, sym, ◌∙◌, append_assoc}
+use Rattle.std.proofs.lemmas.List.{append-nil, reverse-append}
+use Rattle.std.proofs.lemmas.List.Elements.{filter_map-append}
+use Rattle.std.proofs.lemmas.Grind.{flat_map-append}
+use Rattle.dp_script.specs.declared.book.Book.{Book}
+use Rattle.dp_script.specs.declared.event.Event.{Event}
+use Rattle.dp_script.specs.declared.fault.ScriptFault.{ScriptFault}
+use Rattle.dp_script.specs.Books.{Heard}
+use Rattle.dp_script.specs.Events.{events_of, events_by}
+use Rattle.dp_script.specs.Faults.{said_by, entries_of, first_fault}
+
+-- a book of all lines but those that are left
+pub record Stands (book : Book) (left all : List (List ℕ)) : Type 0 where
+  pub before : List (List ℕ)
+  pub heard : Heard book before
+  pub rest : reverse left ++ before ≡ reverse all
+
+turned : (line : List ℕ) (rest before : List (List ℕ)) → reverse (line ∷ rest) ++ before ≡ reverse rest ++ (line ∷ before)
+turned line rest before = rw (reverse-append (line ∷ []) rest) (append_assoc (reverse rest) (line ∷ []) before)
+
+-- a later line leaves the first fault as it is
+fault_stays : (later before : List (List ℕ)) (fault : ScriptFault) → first_fault before ≡ Some fault → first_fault (later ++ before) ≡ Some fault
+unfolding first_fault
+fault_stays [] before fault e = e
+fault_stays (line ∷ later) before fault e = rw (fault_stays later before fault e) refl
+
+pub stands_start : (book : Book) (all : List (List ℕ)) → Heard book [] → Stands book all all
+stands_start book all heard = record { before = []; heard = heard; rest = append-nil (reverse all) }
+
+pub stands_more : (book new : Book) (line : List ℕ) (left rest all : List (List ℕ)) → Stands book left all → left ≡ line ∷ rest
+    → ((before : List (List ℕ)) → Heard book before → Heard new (line ∷ before)) → Stands new rest all
+stands_more book new line left rest all stands e more = record {
+  before = line ∷ stands.before;
+  heard = more stands.before stands.heard;
+  rest = sym (turned line rest stands.before) ∙ (rw e at stands.rest);
+}
+
+pub stands_fault : (book : Book) (line : List ℕ) (left rest all : List (List ℕ)) (fault : ScriptFault) → Stands book left all → left ≡ line ∷ rest
+    → ((before : List (List ℕ)) → Heard book before → first_fault (line ∷ before) ≡ Some fault) → first_fault (reverse all) ≡ Some fault
+stands_fault book line left rest all fault stands e bad =
+    rw (← stands.rest, e, turned line rest stands.before) (fault_stays (reverse rest) (line ∷ stands.before) fault (bad stands.before stands.heard))
+
+pub stands_end : (book : Book) (left all : List (List ℕ)) → Stands book left all → left ≡ [] → first_fault (reverse all) ≡ None
+stands_end book left all stands e = rw (← stands.rest, e) stands.heard.clean
+
+events_by-append : (xs ys : List (List ℕ)) → events_by (xs ++ ys) ≡ events_by xs ++ events_by ys
+events_by-append xs ys = rw (filter_map-append said_by xs ys) (flat_map-append events_of (entries_of xs) (entries_of ys))
+
+-- what a line says goes from what is left to what is done
+pub events_more : (done new all : List Event) (line : List ℕ) (left rest : List (List ℕ)) → done ++ events_by left ≡ all → left ≡ line ∷ rest → new ≡ done ++ events_by (line ∷ []) → new ++ events_by rest ≡ all
+events_more done new all line left rest so_far e more = rw (more, append_assoc, ← events_by-append (line ∷ []) rest) (rw e at so_far)
+
+pub events_end : (done all : List Event) (left : List (List ℕ)) → done ++ events_by left ≡ all → left ≡ [] → done ≡ all
+events_end done all left so_far e = sym (append-nil done) ∙ (rw e at so_far)

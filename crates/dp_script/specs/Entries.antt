@@ -1,0 +1,67 @@
+-- What a line says, judged alone.
+use Rattle.std.specs.Prelude.{ℕ, ◌^◌, nat_lt, nat_le, List, [], ◌∷◌, ℤ, unsigned_abs, Result, Ok, Err, ⊤, if◌then◌else◌}
+use Rattle.dp_script.specs.declared.act.Act.{Act}
+use Rattle.dp_script.specs.declared.act.Act.TheVariants as act
+use Rattle.dp_script.specs.declared.command.Command.{Command}
+use Rattle.dp_script.specs.declared.command.Command.TheVariants.{Usual, Run, Order, Orders, Skew, Say, Stop}
+use Rattle.dp_script.specs.declared.entry.Acts.{Acts}
+use Rattle.dp_script.specs.declared.entry.Acts.TheVariants as acts
+use Rattle.dp_script.specs.declared.entry.Entry.{Entry}
+use Rattle.dp_script.specs.declared.fault.ScriptKind.{ScriptKind}
+use Rattle.dp_script.specs.declared.fault.ScriptKind.TheVariants as kind
+use Rattle.dp_script.specs.Chains.{◌>>=◌}
+use Rattle.dp_script.specs.Acts.{usual_acts, IsWithin}
+use Rattle.dp_script.specs.Commands.{phrase_of}
+
+-- a number below a limit
+abbrev pub below_of : ℕ → ℕ → Result ℕ ScriptKind
+below_of limit n = if nat_lt n limit then Ok n else Err kind.Range
+
+-- a number at most a limit away from zero
+abbrev pub near_of : ℕ → ℤ → Result ℤ ScriptKind
+near_of limit n = if nat_le (unsigned_abs n) limit then Ok n else Err kind.Range
+
+-- the acts of a command whose numbers are within their ranges
+unfoldable pub acts_of : Command → Result Acts ScriptKind
+acts_of Usual = Ok acts.Usual
+acts_of (Run c) = do
+  c ← below_of 3 c
+  Ok (acts.One (act.Run c))
+acts_of (Order c k) = do
+  c ← below_of 3 c
+  k ← below_of 12 k
+  Ok (acts.One (act.Order c k))
+acts_of (Orders c) = do
+  c ← below_of 3 c
+  Ok (acts.One (act.Orders c))
+acts_of (Skew c north east) = do
+  c ← below_of 3 c
+  north ← near_of (2 ^ 43) north
+  east ← near_of (2 ^ 43) east
+  Ok (acts.One (act.Skew c (north, east)))
+acts_of (Say c k force) = do
+  c ← below_of 3 c
+  k ← below_of 12 k
+  force ← near_of (2 ^ 62) force
+  Ok (acts.One (act.Say c k force))
+acts_of (Stop c) = do
+  c ← below_of 3 c
+  Ok (acts.One (act.Stop c))
+
+-- a line's acts as a list
+abbrev pub listed : Acts → List Act
+listed acts.Usual = usual_acts
+listed (acts.One act) = act ∷ []
+
+-- what a line that isn't skipped says, with the first of its faults in the order Verb, Number, Range
+unfoldable pub entry_of : List ℕ → Result Entry ScriptKind
+entry_of line = do
+  said ← phrase_of line
+  acts ← acts_of said.command
+  cycle ← below_of (2 ^ 20) said.cycle
+  Ok (record { cycle = cycle; acts = acts })
+
+-- the numbers of a line's acts are within their ranges
+abbrev pub IsGiven : Acts → Type 0
+IsGiven acts.Usual = ⊤
+IsGiven (acts.One act) = IsWithin act

@@ -1,0 +1,7 @@
+pub mod Chains
+pub mod Acts
+pub mod Commands
+pub mod Entries
+pub mod Faults
+pub mod Events
+pub mod Books

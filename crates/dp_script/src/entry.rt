@@ -1,0 +1,113 @@
+ghost use Rattle.std.specs.Prelude.{◌≡◌, ◌<◌, ◌≤◌, ◌^◌, IfOk, unsigned_abs};
+ghost use Rattle.dp_script.specs.Entries.{below_of, near_of, acts_of, entry_of, IsGiven};
+
+use crate::ScriptKind;
+use crate::act::Act;
+use crate::command::{Command, phrase_read};
+
+/// Computers are 0 to 2.
+const COMPUTERS: u8 = 3;
+/// Voters are 0 to 11.
+const VOTERS: u8 = 12;
+/// A coordinate of a place is within this many nanometres of zero.
+const FARTHEST: u64 = 1 << 43;
+/// A force is within this many newtons of zero.
+const STRONGEST: u64 = 1 << 62;
+/// Cycles are below 2^20.
+const CYCLES: u64 = 1 << 20;
+
+/// The acts that a line gives.
+#[derive(Drop)]
+pub enum Acts {
+    Usual,
+    One(Act),
+}
+
+/// What a line without a fault of its own says.
+#[derive(Drop)]
+pub struct Entry {
+    pub cycle: u64,
+    pub acts: Acts,
+}
+
+/// A number below a limit.
+fn below(number: u64, limit: u8) -> Result<u8, ScriptKind>
+    ensures value { result ≡ below_of limit number }
+    ensures bound { IfOk result (λ n. n < limit) }
+{
+    if number < u64::from(limit) {
+        Ok(number as u8)
+    } else {
+        Err(ScriptKind::Range)
+    }
+}
+
+/// A number at most a limit away from zero.
+fn near(number: i64, limit: u64) -> Result<i64, ScriptKind>
+    ensures value { result ≡ near_of limit number }
+    ensures bound { IfOk result (λ n. unsigned_abs n ≤ limit) }
+{
+    if number.unsigned_abs() <= limit {
+        Ok(number)
+    } else {
+        Err(ScriptKind::Range)
+    }
+}
+
+/// The acts of a command whose numbers are within their ranges.
+#[tactic(auto, unfolding(crate::specs::Entries::acts_of))]
+fn acts_read(command: Command) -> Result<Acts, ScriptKind>
+    ensures value { result ≡ acts_of command }
+    ensures within { IfOk result IsGiven }
+{
+    Ok(Acts::One(match command {
+        Command::Usual => return Ok(Acts::Usual),
+        Command::Run { c } => Act::Run {
+            c: below(c, COMPUTERS)?,
+        },
+        Command::Order { c, k } => Act::Order {
+            c: below(c, COMPUTERS)?,
+            k: below(k, VOTERS)?,
+        },
+        Command::Orders { c } => Act::Orders {
+            c: below(c, COMPUTERS)?,
+        },
+        Command::Skew { c, north, east } => Act::Skew {
+            c: below(c, COMPUTERS)?,
+            at: (near(north, FARTHEST)?, near(east, FARTHEST)?),
+        },
+        Command::Say { c, k, force } => Act::Say {
+            c: below(c, COMPUTERS)?,
+            k: below(k, VOTERS)?,
+            force: near(force, STRONGEST)?,
+        },
+        Command::Stop { c } => Act::Stop {
+            c: below(c, COMPUTERS)?,
+        },
+    }))
+}
+
+/// A cycle below 2^20.
+fn cycle(number: u64) -> Result<u64, ScriptKind>
+    ensures value { result ≡ below_of (2 ^ 20) number }
+    ensures bound { IfOk result (λ n. n < 2 ^ 20) }
+{
+    if number < CYCLES {
+        Ok(number)
+    } else {
+        Err(ScriptKind::Range)
+    }
+}
+
+/// What a line says that isn't skipped, judged alone.
+#[tactic(auto, unfolding(crate::specs::Entries::entry_of))]
+pub fn entry_read(line: &[u8]) -> Result<Entry, ScriptKind>
+    ensures value { result ≡ entry_of line.now }
+    ensures within { IfOk result (λ entry. IsGiven entry.acts) }
+    ensures bound { IfOk result (λ entry. entry.cycle < 2 ^ 20) }
+{
+    let said = phrase_read(line)?;
+    let acts = acts_read(said.command)?;
+    let cycle = cycle(said.cycle)?;
+    Ok(Entry { cycle, acts })
+}

@@ -1,0 +1,4 @@
+pub mod Changes
+pub mod Cuts
+pub mod Judging
+pub mod Joins

@@ -1,0 +1,12 @@
+pub mod Calls
+pub mod Faults
+pub mod MemoryFiles
+pub mod MemoryShelf
+pub mod MemorySink
+pub mod Names
+pub mod PlainShelf
+pub mod PlainSink
+pub mod Shared
+pub mod StdSink
+pub mod Taken
+pub mod Texts

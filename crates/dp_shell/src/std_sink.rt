@@ -1,0 +1,52 @@
+ghost use Rattle.std.specs.Prelude.{◌≡◌, ◌<◌, None, length, IfOk, IsErrOf, IsOk};
+ghost use Rattle.std.specs.Io.{WritesAtMost};
+ghost use Rattle.std.specs.Io.KnownBytes.{WriteAppends};
+ghost use Rattle.dp_shell.specs.Faults.{HasWriteCause};
+
+use crate::{Sink, Trouble};
+use std::io;
+use std::io::Write;
+
+/// Standard output. It tells nothing of what was taken, and never answers want of memory.
+#[derive(Drop)]
+pub struct StdSink<'a, R: Print> {
+    rt: &'a R,
+    faults: u64,
+}
+
+impl<'a, R: Print> StdSink<'a, R> {
+    /// A sink over standard output. No write has failed yet.
+    pub fn new(rt: &'a R) -> Self
+        ensures taken { ⟦<StdSink<'a, R> as Sink>⟧.taken result ≡ None }
+        ensures faults { ⟦<StdSink<'a, R> as Sink>⟧.faults result ≡ 0 }
+    {
+        StdSink { rt, faults: 0 }
+    }
+}
+
+impl<R: Print> Sink for StdSink<'_, R> {
+    ghost use Rattle.dp_shell.specs.StdSink.{faults_of};
+
+    ghost taken = { λ s. None };
+
+    ghost faults = { faults_of };
+
+    fn write(&mut self, piece: &[u8]) -> Result<usize, Trouble>
+        ensures bound { WritesAtMost result piece.now }
+        ensures some { 0 < length piece.now → IfOk result (λ n. 0 < n) }
+        ensures taken { WriteAppends None None result piece.now }
+        ensures cause { HasWriteCause (faults_of self.old) (faults_of self.new) result }
+
+        // It never wants memory, and counts no other call.
+        ensures never { IsErrOf result Trouble.Memory → ⊥ }
+        ensures unfailed { IsOk result → faults_of self.new ≡ faults_of self.old }
+    {
+        match io::writer(self.rt).write(piece) {
+            Ok(count) if count > 0 || piece.is_empty() => Ok(count),
+            _ => {
+                self.faults = self.faults.saturating_add(1);
+                Err(Trouble::Failed)
+            }
+        }
+    }
+}

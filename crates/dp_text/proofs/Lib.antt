@@ -1,0 +1,3 @@
+pub mod FirstLine
+pub mod FirstPart
+pub mod Digits

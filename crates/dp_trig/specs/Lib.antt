@@ -1,0 +1,4 @@
+pub mod Rotation
+pub mod SinePair
+pub mod Tables
+pub mod PairLaws

@@ -1,0 +1,4 @@
+mod Forces
+mod Limits
+mod Reasons
+mod Right
