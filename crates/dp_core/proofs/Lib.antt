@@ -1,0 +1,17 @@
+pub mod AskedLaws
+pub mod Steps
+pub mod Waits
+mod Searches
+mod Cycles
+mod Moments
+mod Trajectories
+mod Soundness
+mod FreshBallots
+mod Voters
+mod Completeness
+mod Computers
+mod OwnForces
+mod Lists
+mod InStep
+mod Worlds
+mod Limits

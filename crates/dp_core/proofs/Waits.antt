@@ -1,0 +1,110 @@
+-- The frames that wait, after each call.
+use Rattle.std.proofs.Common.{◌≡◌, ℕ, zero, suc, ◌+◌, ◌-◌, ◌<◌, ◌≤◌, List, [], ◌∷◌, ◌++◌, length, drop, Some, false, ◌≢◌, refl, sym, ap, subst, ◌∙◌, arith}
+use Rattle.std.specs.Prelude.{slice_get, ◌==◌}
+use Rattle.std.specs.List.{AllByRecursion}
+use Rattle.std.proofs.lemmas.Bool.{eqb-false}
+use Rattle.std.proofs.lemmas.List.{length-append, length-drop}
+use Rattle.circular_buffer.specs.Buffer.{Buffer, buffer, keep_last}
+use Rattle.dp_plant.specs.declared.frames.Frame.{Frame}
+use Rattle.dp_core.specs.Frames.{IsFrameWithin}
+use Rattle.dp_core.specs.Inside.{AreFrames, IsWaiting}
+
+AreFrames-push : (n : ℕ) (fs : List Frame) (next : ℕ) (f : Frame) → AreFrames n fs next → f.cycle ≡ next → AreFrames n (fs ++ f ∷ []) (next + 1)
+AreFrames-push n [] next f are is = (is ∙ sym are, omega (arith, are))
+AreFrames-push n (g ∷ fs) next f are is = (are.0, AreFrames-push (suc n) fs next f are.1 is)
+
+AreFrames-drop : (k n : ℕ) (fs : List Frame) (next : ℕ) → k ≤ length fs → AreFrames n fs next → AreFrames (n + k) (drop k fs) next
+AreFrames-drop zero n fs next le are = let same : n ≡ n + 0 = omega arith in subst (λ m. AreFrames m fs next) same are
+AreFrames-drop (suc k) n [] next le are = absurd (omega (arith, le))
+AreFrames-drop (suc k) n (f ∷ fs) next le are =
+    let same : suc n + k ≡ n + suc k = omega arith in
+    subst (λ m. AreFrames m (drop k fs) next) same (AreFrames-drop k (suc n) fs next (omega (arith, le)) are.1)
+
+all-push : (fs : List Frame) (f : Frame) → AllByRecursion IsFrameWithin fs → IsFrameWithin f → AllByRecursion IsFrameWithin (fs ++ f ∷ [])
+all-push [] f all is = (is, tt)
+all-push (g ∷ fs) f all is = (all.0, all-push fs f all.1 is)
+
+all-drop : (k : ℕ) (fs : List Frame) → AllByRecursion IsFrameWithin fs → AllByRecursion IsFrameWithin (drop k fs)
+all-drop zero fs all = all
+all-drop (suc k) [] all = all
+all-drop (suc k) (f ∷ fs) all = all-drop k fs all.1
+
+-- the oldest frame is taken out
+pub IsWaiting-pop : (a b : Buffer Frame) (next : ℕ) → IsWaiting a next → 1 ≤ length a.items → b ≡ buffer (drop 1 a.items) a.capacity → IsWaiting b next
+IsWaiting-pop a b next w le is =
+    let len : length (drop 1 a.items) + 1 ≡ length a.items = omega (arith, length-drop 1 a.items) in
+    let first : next - length a.items + 1 ≡ next - length (drop 1 a.items) = omega (arith, len, w.enough) in
+    let frames : AreFrames (next - length (drop 1 a.items)) (drop 1 a.items) next = subst (λ m. AreFrames m (drop 1 a.items) next) first (AreFrames-drop 1 (next - length a.items) a.items next le w.frames) in
+    let fresh : IsWaiting (buffer (drop 1 a.items) a.capacity) next = record {
+      capacity = w.capacity;
+      few = omega (arith, len, w.few);
+      enough = omega (arith, len, w.enough);
+      frames = frames;
+      within = all-drop 1 a.items w.within;
+    } in
+    subst (λ (v : Buffer Frame). IsWaiting v next) (sym is) fresh
+
+-- no frame is left
+pub IsWaiting-clear : (b : Buffer Frame) (next : ℕ) → b ≡ buffer [] 16 → IsWaiting b next
+IsWaiting-clear b next is =
+    let fresh : IsWaiting (buffer [] 16) next = record { capacity = refl; few = omega arith; enough = omega arith; frames = omega arith; within = tt } in
+    subst (λ (v : Buffer Frame). IsWaiting v next) (sym is) fresh
+
+-- a wider ring for a moment, which holds one more
+pushed : (n : ℕ) (fs : List Frame) (next : ℕ) (f : Frame) (k : ℕ) → n ≡ next - length fs → length fs ≤ next → AreFrames n fs next → f.cycle ≡ next → k ≤ length (fs ++ f ∷ []) → AreFrames (next + 1 - length (drop k (fs ++ f ∷ []))) (drop k (fs ++ f ∷ [])) (next + 1)
+pushed n fs next f k is enough are cycle le =
+    let first : n + k ≡ next + 1 - length (drop k (fs ++ f ∷ [])) = omega (arith, is, enough, length-drop k (fs ++ f ∷ []), length-append fs (f ∷ []), le) in
+    subst (λ m. AreFrames m (drop k (fs ++ f ∷ [])) (next + 1)) first (AreFrames-drop k n (fs ++ f ∷ []) (next + 1) le (AreFrames-push n fs next f are cycle))
+
+-- a frame is put in, behind the others
+pub IsWaiting-push : (a b : Buffer Frame) (next : ℕ) (f : Frame) → IsWaiting a next → f.cycle ≡ next → IsFrameWithin f → b ≡ buffer (keep_last a.capacity (a.items ++ f ∷ [])) a.capacity → IsWaiting b (next + 1)
+IsWaiting-push a b next f w cycle is_within is =
+    let k = length (a.items ++ f ∷ []) - a.capacity in
+    let longer : length (a.items ++ f ∷ []) ≡ length a.items + 1 = omega (arith, length-append a.items (f ∷ [])) in
+    let len : length (drop k (a.items ++ f ∷ [])) ≡ length (a.items ++ f ∷ []) - k = omega (arith, length-drop k (a.items ++ f ∷ [])) in
+    let fresh : IsWaiting (buffer (drop k (a.items ++ f ∷ [])) a.capacity) (next + 1) = record {
+      capacity = w.capacity;
+      few = omega (arith, len, longer, w.few, w.capacity);
+      enough = omega (arith, len, longer, w.enough);
+      frames = pushed (next - length a.items) a.items next f k refl w.enough w.frames cycle (omega arith);
+      within = all-drop k (a.items ++ f ∷ []) (all-push a.items f w.within is_within);
+    } in
+    subst (λ (v : Buffer Frame). IsWaiting v (next + 1)) (sym is) fresh
+
+-- one more waits where there was room
+pub length-push : (a b : Buffer Frame) (next : ℕ) (f : Frame) → IsWaiting a next → length a.items < 16 → b ≡ buffer (keep_last a.capacity (a.items ++ f ∷ [])) a.capacity → length b.items ≡ length a.items + 1
+length-push a b next f w room is =
+    ap (λ (v : Buffer Frame). length v.items) is ∙ omega (arith, w.capacity, length-append a.items (f ∷ []), length-drop (length (a.items ++ f ∷ []) - a.capacity) (a.items ++ f ∷ []))
+
+front_is : (fs : List Frame) (f : Frame) → slice_get fs 0 ≡ Some f → 1 ≤ length fs
+front_is [] f e = absurd cc
+front_is (g ∷ fs) f e = omega arith
+
+pub some_wait : (a : Buffer Frame) (f : Frame) → slice_get a.items 0 ≡ Some f → 1 ≤ length a.items
+some_wait a f front = front_is a.items f front
+
+pub length-pop : (a b : Buffer Frame) (f : Frame) → slice_get a.items 0 ≡ Some f → b ≡ buffer (drop 1 a.items) a.capacity → length b.items + 1 ≡ length a.items
+length-pop a b f front is =
+    let some : 1 ≤ length a.items = front_is a.items f front in
+    let len : length b.items ≡ length (drop 1 a.items) = ap (λ (v : Buffer Frame). length v.items) is in
+    omega (arith, len, length-drop 1 a.items, some)
+
+pub not_full : (a : Buffer Frame) (next : ℕ) → IsWaiting a next → false ≡ (length a.items == a.capacity) → length a.items < 16
+not_full a next w full =
+    let ne : length a.items ≢ a.capacity = eqb-false _ _ (sym full) in
+    omega (arith, ne, w.few, w.capacity)
+
+-- the oldest frame is the one whose number is that of the frames done
+oldest : (fs : List Frame) (n next : ℕ) (f : Frame) → slice_get fs 0 ≡ Some f → AreFrames n fs next → AllByRecursion IsFrameWithin fs → (f.cycle ≡ n) × IsFrameWithin f
+oldest [] n next f front are all = absurd cc
+oldest (g ∷ fs) n next f front are all =
+    let same : g ≡ f = cc in
+    (subst (λ (v : Frame). v.cycle ≡ n) same are.0, subst IsFrameWithin same all.0)
+
+pub front_cycle : (a : Buffer Frame) (next count : ℕ) (f : Frame) → IsWaiting a next → slice_get a.items 0 ≡ Some f → count + length a.items ≡ next → f.cycle ≡ count
+front_cycle a next count f w front live =
+    let first : next - length a.items ≡ count = omega (arith, live) in
+    (oldest a.items (next - length a.items) next f front w.frames w.within).0 ∙ first
+
+pub front_within : (a : Buffer Frame) (next : ℕ) (f : Frame) → IsWaiting a next → slice_get a.items 0 ≡ Some f → IsFrameWithin f
+front_within a next f w front = (oldest a.items (next - length a.items) next f front w.frames w.within).1

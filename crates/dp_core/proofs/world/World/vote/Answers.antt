@@ -1,0 +1,27 @@
+use Rattle.std.proofs.Common.{◌∙◌, ◌<◌, ◌≡◌, List, ap, length, refl, rules, set, subst, sym}
+use Rattle.arrayvec.proofs.ArrayVecLemmas.{items-with_items}
+use Rattle.dp_core.specs.WorldState.{WorldState, after}
+use Rattle.dp_core.specs.WorldView.{world_of}
+use Rattle.dp_core.specs.declared.event.Event.TheVariants.{Vote}
+use Rattle.dp_voter.specs.Ballots.{ballot_of, voted}
+use Rattle.dp_voter.specs.VoterState.{VoterState}
+use Rattle.dp_core.proofs.Lists.{changed-read, read-is}
+use Rattle.dp_core.proofs.world.World.vote.Goals as goal
+
+pub returns-clause-new : goal.returns-clause-new
+unfolding after
+returns-clause-new c =
+    let k = c.args.k in
+    let i = c.self.inside in
+    let lt : k < length i.voters.items = subst (λ (w : WorldState). k < length w.voters) (sym c.self.view_is) c.requires in
+    let items = items-with_items i.voters (set c.deref_mut.result.now k c.vote.new.self) (search rules) in
+    ap (λ (vs : List VoterState). record (world_of i) { voters = vs }) (changed-read c.deref_mut.result.now i.voters.items _ k c.index-deref_mut-k.result c.vote.new.self voted c.deref_mut.ensures.value lt c.index-deref_mut-k.is c.vote.ensures.voted items)
+    ∙ ap (λ w. after w (Vote k)) c.self.view_is
+
+pub returns-clause-answer : goal.returns-clause-answer
+returns-clause-answer c = λ v s.
+    let k = c.args.k in
+    let i = c.self.inside in
+    let same = c.deref_mut.ensures.value ∙ ap (λ (w : WorldState). w.voters) c.self.view_is in
+    let lt : k < length c.deref_mut.result.now = subst (λ vs. k < length vs) (sym same) c.requires in
+    c.vote.ensures.ballot ∙ ap ballot_of (read-is c.deref_mut.result.now c.args.self.now.voters k c.index-deref_mut-k.result v same lt c.index-deref_mut-k.is s)

@@ -1,0 +1,41 @@
+-- What the fields of a computer mean, and what holds of them.
+use Rattle.std.specs.Prelude.{◌≡◌, ℕ, suc, ◌+◌, ◌-◌, ◌^◌, ◌≤◌, List, [], ◌∷◌, length}
+use Rattle.std.specs.List.{AllByRecursion}
+use Rattle.std.specs.Option.{option_map}
+use Rattle.circular_buffer.specs.Buffer.{Buffer}
+use Rattle.dp_plant.specs.declared.frames.Frame.{Frame}
+use Rattle.dp_plant.specs.declared.voting.Mode.TheVariants.{Live}
+use Rattle.dp_plant.specs.Ranges.{IsPlaneWithin}
+use Rattle.dp_core.specs.declared.computer.Computer.TheInside.{Inside}
+use Rattle.dp_core.specs.Computing.{Computing}
+use Rattle.dp_core.specs.Frames.{IsFrameWithin}
+use Rattle.dp_core.specs.Issue.{issue_value}
+
+abbrev pub computing : Inside → Computing
+computing c = record {
+  mode = c.mode;
+  state = c.state;
+  waits = c.waits.items;
+  next = c.next;
+  last = option_map issue_value c.last;
+  steps = c.steps;
+}
+
+-- the frames are those from the first number up to but not including the last
+abbrev pub AreFrames : ℕ → List Frame → ℕ → Type 0
+AreFrames n [] next = n ≡ next
+AreFrames n (f ∷ fs) next = (f.cycle ≡ n) × AreFrames (suc n) fs next
+
+-- the ring holds at most 16 frames, the last ones before the next
+pub record IsWaiting (b : Buffer Frame) (next : ℕ) : Type 0 where
+  pub capacity : b.capacity ≡ 16
+  pub few : length b.items ≤ 16
+  pub enough : length b.items ≤ next
+  pub frames : AreFrames (next - length b.items) b.items next
+  pub within : AllByRecursion IsFrameWithin b.items
+
+pub record IsComputer (c : Inside) : Type 0 where
+  pub waiting : IsWaiting c.waits c.next
+  pub plane : IsPlaneWithin c.state.plane
+  pub live : c.mode ≡ Live → c.state.count + length c.waits.items ≡ c.next
+  pub bounded : c.next ≤ 2 ^ 20

@@ -1,0 +1,120 @@
+-- A moment: an event, and what was seen of it.
+use Rattle.std.specs.Prelude.{◌≡◌, ℕ, Bool, true, false, ◌&&◌, ◌||◌, List, [], ◌∷◌, Option, Some, None, is_some, if◌then◌else◌, ◌==◌, slice_get, ℤ}
+use Rattle.dp_plant.specs.declared.frames.Frame.{Frame}
+use Rattle.dp_plant.specs.declared.place.Place.{Place}
+use Rattle.dp_plant.specs.declared.voting.Ballot.{Ballot}
+use Rattle.dp_plant.specs.declared.voting.Ballot.TheVariants.{Fresh}
+use Rattle.dp_voter.specs.declared.order.Took.{Took}
+use Rattle.dp_voter.specs.declared.order.Took.TheVariants.{Taken}
+use Rattle.dp_core.specs.declared.answers.Heard.{Heard as HeardAnswer}
+use Rattle.dp_core.specs.declared.answers.Heard.TheVariants.{Overrun}
+use Rattle.dp_core.specs.declared.event.Event.{Event}
+use Rattle.dp_core.specs.declared.event.Event.TheVariants.{Wire, Run, Order, Vote, Skew, Say, Stop}
+use Rattle.dp_core.specs.Answers.{RanIssued, RanHalted}
+use Rattle.dp_core.specs.Issue.{IssueValue}
+use Rattle.dp_core.specs.Seen.{SeenValue, SeenHeard, SeenRan, SeenSent, SeenVoted, SeenSkewed}
+
+pub record Moment : Type 0 where
+  pub event : Event
+  pub seen : SeenValue
+
+-- ---- the event
+
+-- the frame that it brings
+unfoldable pub frame_of : Event → List Frame
+frame_of (Wire f) = f ∷ []
+frame_of _ = []
+
+unfoldable pub is_wire : Event → Bool
+is_wire (Wire f) = true
+is_wire _ = false
+
+unfoldable pub is_run : ℕ → Event → Bool
+is_run c (Run d) = d == c
+is_run c _ = false
+
+unfoldable pub is_stop : ℕ → Event → Bool
+is_stop c (Stop d) = d == c
+is_stop c _ = false
+
+unfoldable pub is_vote : ℕ → Event → Bool
+is_vote k (Vote j) = j == k
+is_vote k _ = false
+
+-- an order of computer a to voter k, be it that of its last issue or a false one
+unfoldable pub is_order : ℕ → ℕ → Event → Bool
+is_order a k (Order b j) = (b == a) && (j == k)
+is_order a k (Say b j cycle force) = (b == a) && (j == k)
+is_order a k _ = false
+
+-- the place of a Skew of c
+unfoldable pub skewed_place : ℕ → Event → Option Place
+skewed_place c (Skew d at) = if d == c then Some at else None
+skewed_place c _ = None
+
+-- a fault of c: a Skew or a Say of it
+unfoldable pub is_fault : ℕ → Event → Bool
+is_fault c (Skew d at) = d == c
+is_fault c (Say d voter cycle force) = d == c
+is_fault c _ = false
+
+-- ---- what was seen
+
+unfoldable pub is_overrun : Option HeardAnswer → Bool
+is_overrun (Some Overrun) = true
+is_overrun _ = false
+
+-- computer c overran
+unfoldable pub saw_overrun : ℕ → SeenValue → Bool
+saw_overrun c (SeenHeard hs) = is_overrun (slice_get hs c)
+saw_overrun c _ = false
+
+unfoldable pub saw_halted : SeenValue → Bool
+saw_halted (SeenRan RanHalted) = true
+saw_halted _ = false
+
+unfoldable pub saw_issue : SeenValue → Option IssueValue
+saw_issue (SeenRan (RanIssued x)) = Some x
+saw_issue _ = None
+
+unfoldable pub saw_taken : SeenValue → Bool
+saw_taken (SeenSent (Some Taken)) = true
+saw_taken _ = false
+
+unfoldable pub saw_ballot : SeenValue → Option Ballot
+saw_ballot (SeenVoted b) = Some b
+saw_ballot _ = None
+
+unfoldable pub saw_skewed : SeenValue → Bool
+saw_skewed (SeenSkewed b) = b
+saw_skewed _ = false
+
+unfoldable pub fresh_of : Option Ballot → Option ℤ
+fresh_of (Some (Fresh f)) = Some f
+fresh_of _ = None
+
+-- ---- both
+
+-- a Run of c at which the observer diverged
+unfoldable pub is_halt : ℕ → Moment → Bool
+is_halt c m = is_run c m.event && saw_halted m.seen
+
+-- c is off from here on
+unfoldable pub is_end : ℕ → Moment → Bool
+is_end c m = is_stop c m.event || is_halt c m
+
+-- what ends a stretch of c: it is off, or it overran
+unfoldable pub is_break : ℕ → Moment → Bool
+is_break c m = is_end c m || saw_overrun c m.seen
+
+-- a Skew of c while it is live
+unfoldable pub is_skew : ℕ → Moment → Bool
+is_skew c m = is_some (skewed_place c m.event) && saw_skewed m.seen
+
+-- the issue of a Run of c
+unfoldable pub issue_of : ℕ → Moment → Option IssueValue
+issue_of c m = if is_run c m.event then saw_issue m.seen else None
+
+-- the ballot of a Vote of k
+unfoldable pub ballot_of : ℕ → Moment → Option Ballot
+ballot_of k m = if is_vote k m.event then saw_ballot m.seen else None

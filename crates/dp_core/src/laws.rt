@@ -1,0 +1,36 @@
+//! What holds of every list of events: each function's contract is the law.
+ghost use Rattle.dp_core.specs.Laws.{FreshIsReference, SkewedIsFaulty, TakenIsOwn, TrajectoriesAreReference, TwoHeardAreFresh};
+
+use dp_fixed::laws::floor_is_exact;
+use dp_voter::laws::{fresh_is_right, two_right_are_fresh};
+
+/// With at most one faulty computer in any cycle, each live computer that wasn't skewed since its last break has come to the state of
+/// the reference run after the frames that it has done.
+pub fn trajectories_are_reference()
+    ensures { TrajectoriesAreReference }
+{}
+
+/// A computer that isn't faulty isn't skewed.
+pub fn skewed_is_faulty()
+    ensures { SkewedIsFaulty }
+{}
+
+/// With at most one faulty computer in any cycle, a fresh ballot is the reference run's force.
+pub fn fresh_is_reference()
+    ensures { FreshIsReference }
+{
+    fresh_is_right();
+}
+
+/// The force that a voter takes from a computer's last issue is one of that computer's own trajectory, for this cycle.
+pub fn taken_is_own()
+    ensures { TakenIsOwn }
+{}
+
+/// Where two computers that aren't faulty are heard in a cycle before its vote, its ballot is fresh.
+pub fn two_heard_are_fresh()
+    ensures { TwoHeardAreFresh }
+{
+    floor_is_exact();
+    two_right_are_fresh();
+}
