@@ -266,6 +266,14 @@ after-represents es w (Skew c at) i r = skew-represents es w c at r
 after-represents es w (Say a k n f) i r = say-represents es w a k n f i.0 r
 after-represents es w (Stop c) i r = stop-represents es w c r
 
+-- ---- a voter stands for each thruster
+
+pub below-voters : (w now : WorldState) (k : ℕ) → w ≡ now → length w.voters ≡ length w.plant.thrusters.items → k < length now.plant.thrusters.items → k < length w.voters
+below-voters w now k same each l = subst (λ n. k < n) (sym each) (subst (λ (v : WorldState). k < length v.plant.thrusters.items) (sym same) l)
+
+voter-there : (es : List Event) (w : WorldState) (k : ℕ) → k < length w.plant.thrusters.items → Represents es w → (v : VoterState) × (slice_get w.voters k ≡ Some v)
+voter-there es w k l r = get-below w.voters k (below-voters w w k refl r.thrusters l)
+
 -- ---- what each event is answered
 
 pub heard-seen : (es : List Event) (w : WorldState) (f : Frame) → Represents es w → SeenHeard (map hearing w.computers) ≡ seen_of w.plant (history w.plant es) (Wire f)
@@ -293,16 +301,16 @@ skewed-seen es w c at a c3 r is =
     let t = get-below w.computers c (omega arith) in
     ap SeenSkewed (is t.0 t.1 ∙ skewing-represents w.plant c (history w.plant es) t.0 (r.computers c t.0 t.1))
 
-pub voted-seen : (es : List Event) (w : WorldState) (k : ℕ) (b : Ballot) → k < length w.voters → Represents es w → ((v : VoterState) → slice_get w.voters k ≡ Some v → b ≡ voter_ballot v) → SeenVoted b ≡ seen_of w.plant (history w.plant es) (Vote k)
+pub voted-seen : (es : List Event) (w : WorldState) (k : ℕ) (b : Ballot) → k < length w.plant.thrusters.items → Represents es w → ((v : VoterState) → slice_get w.voters k ≡ Some v → b ≡ voter_ballot v) → SeenVoted b ≡ seen_of w.plant (history w.plant es) (Vote k)
 unfolding seen_of
 voted-seen es w k b l r is =
-    let t = get-below w.voters k l in
+    let t = voter-there es w k l r in
     ap SeenVoted (is t.0 t.1 ∙ ballot-represents w.plant k (history w.plant es) t.0 (r.voters k t.0 t.1))
 
-pub said-seen : (es : List Event) (w : WorldState) (a k n : ℕ) (f : ℤ) (o : Took) → a < 3 → k < length w.voters → Represents es w → ((v : VoterState) → slice_get w.voters k ≡ Some v → o ≡ answer_of v a n f) → SeenSent (Some o) ≡ seen_of w.plant (history w.plant es) (Say a k n f)
+pub said-seen : (es : List Event) (w : WorldState) (a k n : ℕ) (f : ℤ) (o : Took) → a < 3 → k < length w.plant.thrusters.items → Represents es w → ((v : VoterState) → slice_get w.voters k ≡ Some v → o ≡ answer_of v a n f) → SeenSent (Some o) ≡ seen_of w.plant (history w.plant es) (Say a k n f)
 unfolding seen_of
 said-seen es w a k n f o a3 l r is =
-    let t = get-below w.voters k l in
+    let t = voter-there es w k l r in
     ap (λ q. SeenSent (Some q)) (is t.0 t.1 ∙ answer-represents w.plant k a (history w.plant es) (record { cycle = n; force = f }) t.0 a3 (r.voters k t.0 t.1))
 
 answers_if : (p : Plant) (k a : ℕ) (h : List Moment) (s : Option Said) (v : VoterState) → a < 3 → VoterRepresents p k h v → option_map (λ (s : Said). answer_of v a s.cycle s.force) s ≡ answer_if p k a h s
@@ -310,12 +318,12 @@ unfolding answer_if
 answers_if p k a h None v a3 r = refl
 answers_if p k a h (Some s) v a3 r = ap Some (answer-represents p k a h s v a3 r)
 
-pub ordered-seen : (es : List Event) (w : WorldState) (a k : ℕ) (o : Option Took) → a < 3 → k < length w.voters → Represents es w → ((v : VoterState) → slice_get w.voters k ≡ Some v → o ≡ option_map (λ (s : Said). answer_of v a s.cycle s.force) (said_by k (last_of (slice_get w.computers a)))) → SeenSent o ≡ seen_of w.plant (history w.plant es) (Order a k)
+pub ordered-seen : (es : List Event) (w : WorldState) (a k : ℕ) (o : Option Took) → a < 3 → k < length w.plant.thrusters.items → Represents es w → ((v : VoterState) → slice_get w.voters k ≡ Some v → o ≡ option_map (λ (s : Said). answer_of v a s.cycle s.force) (said_by k (last_of (slice_get w.computers a)))) → SeenSent o ≡ seen_of w.plant (history w.plant es) (Order a k)
 unfolding seen_of
 ordered-seen es w a k o a3 l r is =
     let p = w.plant in
     let h = history p es in
-    let t = get-below w.voters k l in
+    let t = voter-there es w k l r in
     ap SeenSent (is t.0 t.1 ∙ (answers_if p k a h (said_by k (last_of (slice_get w.computers a))) t.0 a3 (r.voters k t.0 t.1) ∙ ap (λ i. answer_if p k a h (said_by k i)) (last-represents es w a a3 r)))
 
 -- ---- an event that is one of a kind

@@ -8,7 +8,7 @@ use Rattle.dp_plant.specs.declared.voting.Mode.TheVariants.{Live}
 use Rattle.dp_plant.specs.Ranges.{IsPlaneWithin}
 use Rattle.dp_core.specs.declared.computer.Computer.TheInside.{Inside}
 use Rattle.dp_core.specs.Computing.{Computing}
-use Rattle.dp_core.specs.Frames.{IsFrameWithin}
+use Rattle.dp_plant.specs.FrameRanges.{IsFrameWithin}
 use Rattle.dp_core.specs.Issue.{issue_value}
 
 abbrev pub computing : Inside → Computing

@@ -1,7 +1,6 @@
 pub mod Issue
 pub mod Answers
 pub mod Fusion
-pub mod Frames
 pub mod Step
 pub mod Runnable
 pub mod Computing

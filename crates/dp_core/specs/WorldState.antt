@@ -1,5 +1,6 @@
 -- What a world keeps, and what each event makes of it.
 use Rattle.std.specs.Prelude.{◌≡◌, ℕ, ◌+◌, ◌<◌, ◌^◌, List, map, length, ℤ, Option, Some, None, slice_get, slice_set}
+use Rattle.dp_plant.specs.FrameRanges.{IsFrameWithin}
 use Rattle.dp_plant.specs.Ranges.{IsVectorWithin}
 use Rattle.dp_plant.specs.declared.plant.Plant.{Plant}
 use Rattle.dp_plant.specs.declared.thrusters.Thruster.{Thruster}
@@ -9,7 +10,6 @@ use Rattle.dp_voter.specs.Ballots.{voted}
 use Rattle.dp_core.specs.declared.event.Event.{Event}
 use Rattle.dp_core.specs.declared.event.Event.TheVariants.{Wire, Run, Order, Vote, Skew, Say, Stop}
 use Rattle.dp_core.specs.Computing.{Computing, heard_frame, ran, skewed, stopped}
-use Rattle.dp_core.specs.Frames.{IsFrameWithin}
 use Rattle.dp_core.specs.Issue.{IssueValue}
 use Rattle.dp_core.specs.Voting.{Said, said_by}
 
@@ -29,10 +29,10 @@ voter_of t = new_voter t.min t.max
 abbrev pub IsAllowed : WorldState → Event → Type 0
 IsAllowed w (Wire f) = (f.cycle ≡ w.heard) × IsFrameWithin f
 IsAllowed w (Run c) = c < 3
-IsAllowed w (Order a k) = (a < 3) × (k < length w.voters)
-IsAllowed w (Vote k) = k < length w.voters
+IsAllowed w (Order a k) = (a < 3) × (k < length w.plant.thrusters.items)
+IsAllowed w (Vote k) = k < length w.plant.thrusters.items
 IsAllowed w (Skew c at) = (c < 3) × IsVectorWithin (2 ^ 43) at
-IsAllowed w (Say a k cycle force) = (a < 3) × (k < length w.voters)
+IsAllowed w (Say a k cycle force) = (a < 3) × (k < length w.plant.thrusters.items)
 IsAllowed w (Stop c) = c < 3
 
 -- one of them changed

@@ -4,7 +4,7 @@ ghost use Rattle.std.specs.Option.{option_map};
 ghost use Rattle.dp_plant.specs.declared.voting.Mode.TheVariants.{Off};
 ghost use Rattle.dp_plant.specs.Ranges.{IsVectorWithin};
 ghost use Rattle.dp_core.specs.Answers.{ran_value};
-ghost use Rattle.dp_core.specs.Frames.{IsFrameWithin};
+ghost use Rattle.dp_plant.specs.FrameRanges.{IsFrameWithin};
 ghost use Rattle.dp_core.specs.Issue.{issue_value};
 ghost use Rattle.dp_core.specs.Runnable.{IsRunnable};
 

@@ -5,7 +5,7 @@ ghost use Rattle.std.specs.List.{AllByRecursion};
 ghost use Rattle.dp_fixed.specs.Division.{floor_of};
 ghost use Rattle.dp_fixed.specs.Order.{mid3_of};
 ghost use Rattle.dp_plant.specs.Ranges.{IsMeasuredPlace, IsVectorWithin};
-ghost use Rattle.dp_core.specs.Frames.{IsReadingWithin};
+ghost use Rattle.dp_plant.specs.FrameRanges.{IsPlaceSlotWithin};
 ghost use Rattle.dp_core.specs.Fusion.{fuse_of, fuse_places, fused_of, placed};
 
 use dp_fixed::{floor_div, mid3, narrow, sum};
@@ -100,7 +100,7 @@ fn fuse_places(a: Option<Place>, b: Option<Place>, c: Option<Place>) -> Option<P
 /// Where the vessel is, by the last readings of the three references.
 #[tactic(auto, unfolding(crate::specs::Fusion::fused_of))]
 pub(crate) fn fused(slots: &[Slot<Place>; 3]) -> Option<Place>
-    requires { AllByRecursion IsReadingWithin slots.now }
+    requires { AllByRecursion IsPlaceSlotWithin slots.now }
     ensures value { result ≡ fused_of slots.now }
     ensures within { IfSome result IsMeasuredPlace }
 {

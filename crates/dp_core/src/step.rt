@@ -3,7 +3,7 @@ ghost use Rattle.std.specs.Prelude.{◌≡◌, ◌≤◌, ◌^◌, ◌+◌, ◌+
 ghost use Rattle.dp_plant.specs.Law.{plane_demand};
 ghost use Rattle.dp_plant.specs.Ranges.{IsDemand, IsPlaneWithin, IsPush, IsVectorWithin};
 ghost use Rattle.dp_plant.specs.Step.{push_of};
-ghost use Rattle.dp_core.specs.Frames.{IsFrameWithin};
+ghost use Rattle.dp_plant.specs.FrameRanges.{IsFrameWithin};
 ghost use Rattle.dp_core.specs.Issue.{issue_value};
 ghost use Rattle.dp_core.specs.Runnable.{IsRunnable};
 ghost use Rattle.dp_core.specs.Step.{bounds_of, first_state, issue_in, north_pair, plane_cycle, rest_in, step_of, three_zeros};

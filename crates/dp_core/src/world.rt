@@ -9,7 +9,7 @@ ghost use Rattle.std.specs.Prelude.{◌≤ℤ◌};
 ghost use Rattle.dp_core.specs.Computing.{Computing, heard_frame, hearing};
 ghost use Rattle.dp_core.specs.Issue.{issue_value};
 ghost use Rattle.dp_core.specs.Voting.{force};
-ghost use Rattle.dp_core.specs.Frames.{IsFrameWithin};
+ghost use Rattle.dp_plant.specs.FrameRanges.{IsFrameWithin};
 ghost use Rattle.dp_core.specs.WorldView.{IsInStep};
 
 use crate::computer::Computer;
@@ -139,7 +139,7 @@ impl World {
 
     /// The orders that a voter took in this cycle, one place for each computer.
     pub fn held(&self, voter: u8) -> [Option<i64>; 3]
-        requires { voter < length self.now.voters }
+        requires { voter < length self.now.plant.thrusters.items }
         ensures part { (v : VoterState) → slice_get self.now.voters voter ≡ Some v → result ≡ v.orders }
         ensures represents { (es : List Event) → Represents es self.now
             → result ≡ taken voter 0 (history self.now.plant es) ∷ taken voter 1 (history self.now.plant es) ∷ taken voter 2 (history self.now.plant es) ∷ [] }
@@ -189,7 +189,7 @@ impl World {
 
     #[tactic(auto, unfolding(crate::specs::WorldState::after))]
     fn vote(&mut self, k: u8) -> Ballot
-        requires { k < length self.old.voters }
+        requires { k < length self.old.plant.thrusters.items }
         ensures new { self.new ≡ after self.old (Vote k) }
         ensures answer { (v : VoterState) → slice_get self.old.voters k ≡ Some v → result ≡ ballot_of v }
     {
@@ -199,7 +199,7 @@ impl World {
     #[tactic(auto, unfolding(crate::specs::WorldState::after))]
     fn say(&mut self, from: u8, k: u8, cycle: u64, force: i64) -> Took
         requires computer { from < 3 }
-        requires voter { k < length self.old.voters }
+        requires voter { k < length self.old.plant.thrusters.items }
         ensures new { self.new ≡ after self.old (Say from k cycle force) }
         ensures answer { (v : VoterState) → slice_get self.old.voters k ≡ Some v → result ≡ answer_of v from cycle force }
     {
@@ -230,7 +230,7 @@ impl World {
     #[tactic(auto, unfolding(crate::specs::WorldState::after))]
     fn order(&mut self, from: u8, k: u8) -> Option<Took>
         requires computer { from < 3 }
-        requires voter { k < length self.old.voters }
+        requires voter { k < length self.old.plant.thrusters.items }
         ensures new { self.new ≡ after self.old (Order from k) }
         ensures answer { (v : VoterState) → slice_get self.old.voters k ≡ Some v → result ≡ option_map (λ s. answer_of v from s.cycle s.force) (said_by k (last_of (slice_get self.old.computers from))) }
     {

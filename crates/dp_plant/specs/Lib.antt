@@ -5,4 +5,5 @@ pub mod Step
 pub mod Ranges
 pub mod Yaw
 pub mod YawRanges
+pub mod FrameRanges
 pub mod BuiltInPlant

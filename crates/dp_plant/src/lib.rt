@@ -7,7 +7,8 @@
 //! `specs/` has one cycle of the plane as whole numbers: the observer's step (`Observer`), the control law's demand (`Law`), and both
 //! together (`Step`), after the nonlinear passive observer and the PID law of Fossen's Handbook of Marine Craft Hydrodynamics and Motion
 //! Control, made discrete by this project; `Yaw` has the same for yaw. Each floor there is that of one whole number over another, and
-//! there is one for each coordinate. `Ranges` and `YawRanges` have the ranges that the contracts of the crates above speak of.
+//! there is one for each coordinate. `Ranges`, `YawRanges` and `FrameRanges` have the ranges that the contracts of the crates above speak
+//! of.
 //!
 //! Lengths are nanometres, time is counted in cycles, so a velocity is nanometres per cycle and an acceleration nanometres per cycle
 //! squared; velocity and bias are divided by mass. Headings are nanodegrees in a state and hundredths of a degree in a frame. Gains and

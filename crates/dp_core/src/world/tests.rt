@@ -1,6 +1,6 @@
 ghost use Rattle.std.specs.Prelude.{◌≡◌, ◌^◌};
 ghost use Rattle.dp_plant.specs.Ranges.{IsVectorWithin};
-ghost use Rattle.dp_core.specs.Frames.{IsFrameWithin, IsReadingWithin};
+ghost use Rattle.dp_plant.specs.FrameRanges.{IsFrameWithin, IsPlaceSlotWithin};
 ghost use Rattle.dp_core.specs.WorldState.{IsAllowed};
 
 use super::*;
@@ -71,7 +71,7 @@ fn place(rt: &impl Abort, north: i64, east: i64) -> Place
 }
 
 fn slot(rt: &impl Abort, reading: Option<(i64, i64)>) -> Slot<Place>
-    ensures { IsReadingWithin result }
+    ensures { IsPlaceSlotWithin result }
 {
     let last = match reading {
         None => None,
@@ -114,7 +114,7 @@ fn frame(rt: &impl Abort, cycle: u64, readings: [Option<(i64, i64)>; 3]) -> Fram
 fn event(rt: &impl Abort, world: &World, call: Call) -> Event
     ensures { IsAllowed world.now result }
 {
-    let voters = world.voters.len();
+    let voters = world.plant.thrusters.len();
     match call {
         Brings(first, second, third) => {
             Event::Wire(frame(rt, world.heard, [first, second, third]))
@@ -214,7 +214,7 @@ fn follow(rt: &impl Abort, mut world: World, row: &Row) {
         assert_eq!(rt; seen_as(&seen), *expected, "{name}");
     }
     assert_eq!(rt; world.modes(), row.modes, "{name}");
-    assert!(rt; world.voters.len() == 3, "{name}");
+    assert!(rt; world.plant.thrusters.len() == 3, "{name}");
     assert_eq!(rt; world.held(0), row.surge, "{name}");
     assert_eq!(rt; world.held(1), row.sway, "{name}");
     assert_eq!(rt; world.held(2), row.yaw, "{name}");

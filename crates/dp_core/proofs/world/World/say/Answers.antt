@@ -7,7 +7,7 @@ use Rattle.dp_core.specs.declared.event.Event.TheVariants.{Say}
 use Rattle.dp_voter.specs.Orders.{answer_of, ordered}
 use Rattle.dp_voter.specs.VoterState.{VoterState}
 use Rattle.dp_core.proofs.Lists.{changed-read, read-is}
-use Rattle.dp_core.proofs.Worlds.{said-is, say-is}
+use Rattle.dp_core.proofs.Worlds.{below-voters, said-is, say-is}
 use Rattle.dp_core.proofs.world.World.say.Goals as goal
 
 pub returns-clause-new : goal.returns-clause-new
@@ -15,7 +15,7 @@ unfolding after
 returns-clause-new c =
     let k = c.args.k in
     let i = c.self.inside in
-    let lt : k < length i.voters.items = subst (λ (w : WorldState). k < length w.voters) (sym c.self.view_is) c.requires.voter in
+    let lt : k < length i.voters.items = below-voters (world_of i) c.args.self.now k c.self.view_is c.self.invariant.voters c.requires.voter in
     let items = items-with_items i.voters (set c.deref_mut.result.now k c.order.new.self) (search rules) in
     let x = c.index-deref_mut-k.result in
     let answer = c.order.ensures.answer in
@@ -28,5 +28,5 @@ returns-clause-answer c = λ v s.
     let k = c.args.k in
     let i = c.self.inside in
     let same = c.deref_mut.ensures.value ∙ ap (λ (w : WorldState). w.voters) c.self.view_is in
-    let lt : k < length c.deref_mut.result.now = subst (λ vs. k < length vs) (sym same) c.requires.voter in
+    let lt : k < length c.deref_mut.result.now = subst (λ vs. k < length vs) (sym c.deref_mut.ensures.value) (below-voters (world_of i) c.args.self.now k c.self.view_is c.self.invariant.voters c.requires.voter) in
     said-is _ v c.args.from c.args.cycle _ c.args.force c.order.result (to_z-of_z c.ranges.force) c.order.ensures.answer (read-is c.deref_mut.result.now c.args.self.now.voters k c.index-deref_mut-k.result v same lt c.index-deref_mut-k.is s)
