@@ -13,7 +13,6 @@ use Rattle.dp_core.proofs.Trajectories.{Within, done-quiet, done-ran, done-skewe
 use Rattle.dp_core.specs.Answers.{RanAligning, RanIdle, RanOff, RanValue}
 use Rattle.dp_core.specs.Computing.{Computing, began, going_on, heard_frame, hearing, hearing_in, hears_in, is_live, last_16, one_more, ran, running, running_in, running_over, runs_in, runs_over, skewing, skews_in, stopped, went_on}
 use Rattle.dp_core.specs.History.{heard_as, ran_as, ran_as_over, ran_as_stepped, seen_of}
-use Rattle.dp_core.specs.Inside.{computing}
 use Rattle.dp_core.specs.Mode.{at_break, broken_mode, frames, heard, mode}
 use Rattle.dp_core.specs.Moment.{Moment, frame_of, is_break, is_end, is_halt, is_overrun, is_run, is_skew, is_stop, issue_of, saw_halted, saw_issue, saw_overrun, saw_skewed, skewed_place}
 use Rattle.dp_core.specs.Represents.{ComputerRepresents}

@@ -3,7 +3,6 @@ use Rattle.std.proofs.Common.{Bool, List, None, Option, Some, [], arith, eqb, fa
 use Rattle.std.specs.Prelude.{slice_get}
 use Rattle.dp_core.proofs.Lists.{map-at, set-at}
 use Rattle.dp_core.specs.Computing.{Computing, heard_frame, hears_in, last_16, ran, runs_in, runs_over, skewed, skews_in, stopped, went_on}
-use Rattle.dp_core.specs.Mode.{mode}
 use Rattle.dp_core.specs.Step.{Stepped, step_of}
 use Rattle.dp_core.specs.WorldView.{IsInStep}
 use Rattle.dp_plant.specs.declared.frames.Frame.{Frame}

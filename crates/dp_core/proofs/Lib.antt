@@ -15,3 +15,5 @@ mod Lists
 mod InStep
 mod Worlds
 mod Limits
+pub mod HistoryLemmas
+pub mod VoteLemmas

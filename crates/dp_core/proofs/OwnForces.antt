@@ -3,7 +3,6 @@ use Rattle.std.proofs.Common.{Bool, List, None, Option, Some, [], ap, eqb, false
 use Rattle.std.proofs.lemmas.Bool.{and_from, eq-eqb, eqb-true}
 use Rattle.dp_core.proofs.Moments.{IsRan, IsRan-from_issue, IsTaken-from_order, moment}
 use Rattle.dp_core.proofs.Searches.{last_issue-broken, last_issue-quiet, last_issue-ran}
-use Rattle.dp_core.specs.Computing.{ran}
 use Rattle.dp_core.specs.History.{history, seen_of}
 use Rattle.dp_core.specs.Issue.{IssueValue}
 use Rattle.dp_core.specs.Moment.{Moment, is_break, is_fault, is_order, is_run, is_wire, issue_of, saw_issue, saw_taken}

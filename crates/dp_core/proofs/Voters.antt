@@ -5,7 +5,6 @@ use Rattle.std.proofs.lemmas.Bool.{and_from, and_left, and_right, cases_Bool, eq
 use Rattle.std.specs.Prelude.{nat_le}
 use Rattle.dp_core.proofs.Moments.{moment}
 use Rattle.dp_core.proofs.Trajectories.{frames-kept}
-use Rattle.dp_core.specs.Computing.{one_more}
 use Rattle.dp_core.specs.History.{history, seen_of}
 use Rattle.dp_core.specs.Issue.{IssueValue}
 use Rattle.dp_core.specs.Mode.{frames, heard}
@@ -66,15 +65,15 @@ pub taken-kept : (k a : ℕ) (m : Moment) (h : List Moment) → is_wire m.event 
 unfolding taken
 taken-kept k a m h w o = rw (w, o)
 
-given-kept : (k : ℕ) (m : Moment) (h : List Moment) → is_wire m.event ≡ false → ballot_of k m ≡ None → given k (m ∷ h) ≡ given k h
+pub given-kept : (k : ℕ) (m : Moment) (h : List Moment) → is_wire m.event ≡ false → ballot_of k m ≡ None → given k (m ∷ h) ≡ given k h
 unfolding given
 given-kept k m h w b = rw (w, b) (or_else-none (given k h))
 
-last_fresh-kept : (k : ℕ) (m : Moment) (h : List Moment) → ballot_of k m ≡ None → last_fresh k (m ∷ h) ≡ last_fresh k h
+pub last_fresh-kept : (k : ℕ) (m : Moment) (h : List Moment) → ballot_of k m ≡ None → last_fresh k (m ∷ h) ≡ last_fresh k h
 unfolding last_fresh fresh_of
 last_fresh-kept k m h b = rw b
 
-unfresh-kept : (k : ℕ) (m : Moment) (h : List Moment) → is_wire m.event ≡ false → ballot_of k m ≡ None → unfresh k (m ∷ h) ≡ unfresh k h
+pub unfresh-kept : (k : ℕ) (m : Moment) (h : List Moment) → is_wire m.event ≡ false → ballot_of k m ≡ None → unfresh k (m ∷ h) ≡ unfresh k h
 unfolding unfresh fresh_of
 unfresh-kept k m h w b = rw (w, b)
 
@@ -230,7 +229,7 @@ vote-gives : (p : Plant) (k : ℕ) (h : List Moment) → ballot_of k (moment p h
 unfolding ballot_of is_vote saw_ballot seen_of
 vote-gives p k h = (let e : eqb k k ≡ true = eq-eqb k k refl in rw e)
 
-given-voted : (p : Plant) (k : ℕ) (h : List Moment) (o : Option Ballot) → given k h ≡ o → given k (moment p h (Vote k) ∷ h) ≡ Some (ballot k h)
+pub given-voted : (p : Plant) (k : ℕ) (h : List Moment) (o : Option Ballot) → given k h ≡ o → given k (moment p h (Vote k) ∷ h) ≡ Some (ballot k h)
 unfolding given is_wire ballot the_ballot or_else
 given-voted p k h (Some b) g = rw g
 given-voted p k h None g = rw (g, vote-gives p k h) (ap Some (rw g))

@@ -1,5 +1,5 @@
 -- The history of a list of events: each with what was seen of it, by the moments before.
-use Rattle.std.specs.Prelude.{ℕ, ◌-◌, Bool, true, false, List, [], ◌∷◌, ◌==◌, Option, Some, None, if◌then◌else◌, slice_get}
+use Rattle.std.specs.Prelude.{ℕ, ◌-◌, List, [], ◌∷◌, ◌==◌, Option, Some, None, if◌then◌else◌, slice_get}
 use Rattle.dp_plant.specs.declared.frames.Frame.{Frame}
 use Rattle.dp_plant.specs.declared.plant.Plant.{Plant}
 use Rattle.dp_plant.specs.declared.voting.Mode.{Mode}
@@ -11,7 +11,6 @@ use Rattle.dp_core.specs.declared.event.Event.{Event}
 use Rattle.dp_core.specs.declared.event.Event.TheVariants.{Wire, Run, Order, Vote, Skew, Say, Stop}
 use Rattle.dp_core.specs.Answers.{RanValue, RanIssued, RanIdle, RanAligning, RanOff, RanHalted}
 use Rattle.dp_core.specs.Computing.{is_live}
-use Rattle.dp_core.specs.Issue.{IssueValue}
 use Rattle.dp_core.specs.Seen.{SeenValue, SeenHeard, SeenRan, SeenSent, SeenVoted, SeenSkewed, SeenDone}
 use Rattle.dp_core.specs.Step.{Stepped, step_of}
 use Rattle.dp_core.specs.Moment.{Moment}

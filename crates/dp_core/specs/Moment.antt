@@ -1,10 +1,9 @@
 -- A moment: an event, and what was seen of it.
-use Rattle.std.specs.Prelude.{◌≡◌, ℕ, Bool, true, false, ◌&&◌, ◌||◌, List, [], ◌∷◌, Option, Some, None, is_some, if◌then◌else◌, ◌==◌, slice_get, ℤ}
+use Rattle.std.specs.Prelude.{ℕ, Bool, true, false, ◌&&◌, ◌||◌, List, [], ◌∷◌, Option, Some, None, is_some, if◌then◌else◌, ◌==◌, slice_get, ℤ}
 use Rattle.dp_plant.specs.declared.frames.Frame.{Frame}
 use Rattle.dp_plant.specs.declared.place.Place.{Place}
 use Rattle.dp_plant.specs.declared.voting.Ballot.{Ballot}
 use Rattle.dp_plant.specs.declared.voting.Ballot.TheVariants.{Fresh}
-use Rattle.dp_voter.specs.declared.order.Took.{Took}
 use Rattle.dp_voter.specs.declared.order.Took.TheVariants.{Taken}
 use Rattle.dp_core.specs.declared.answers.Heard.{Heard as HeardAnswer}
 use Rattle.dp_core.specs.declared.answers.Heard.TheVariants.{Overrun}

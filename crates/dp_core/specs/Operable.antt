@@ -1,5 +1,5 @@
 -- What a plant needs so that a world can be made of it.
-use Rattle.std.specs.Prelude.{ℤ, ◌≤ℤ◌, pos, ◌≡◌, ℕ, Some, slice_get}
+use Rattle.std.specs.Prelude.{◌≤ℤ◌, pos, ◌≡◌, ℕ, Some, slice_get}
 use Rattle.dp_plant.specs.Vectors.{entry}
 use Rattle.dp_plant.specs.declared.plant.Plant.{Plant}
 use Rattle.dp_plant.specs.declared.thrusters.Thruster.{Thruster}

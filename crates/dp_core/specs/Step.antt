@@ -1,5 +1,5 @@
 -- One cycle of one computer.
-use Rattle.std.specs.Prelude.{ℕ, ◌+◌, ◌^◌, ◌==◌, Bool, ◌&&◌, nat_le, if◌then◌else◌, List, [], ◌∷◌, ℤ, pos, unsigned_abs, Option, Some, None, unwrap_or}
+use Rattle.std.specs.Prelude.{◌+◌, ◌^◌, ◌==◌, Bool, ◌&&◌, nat_le, if◌then◌else◌, List, [], ◌∷◌, ℤ, pos, unsigned_abs, Option, Some, None, unwrap_or}
 use Rattle.std.specs.List.{find}
 use Rattle.std.specs.Option.{option_map}
 use Rattle.dp_fixed.specs.Scale.{one}

@@ -1,4 +1,4 @@
-use Rattle.std.proofs.Common.{◌≡◌, ◌+◌, ◌≤◌, length, sym, arith}
+use Rattle.std.proofs.Common.{◌≡◌, ◌+◌, length, sym, arith}
 use Rattle.dp_core.proofs.Waits.{IsWaiting-pop, length-pop, some_wait}
 use Rattle.dp_core.proofs.computer.Computer.run.Goals as goal
 

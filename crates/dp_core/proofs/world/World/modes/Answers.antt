@@ -1,4 +1,4 @@
-use Rattle.std.proofs.Common.{ap, arith, ◌≡◌, ◌∙◌}
+use Rattle.std.proofs.Common.{ap, arith}
 use Rattle.dp_core.specs.WorldState.{WorldState}
 use Rattle.dp_core.proofs.Worlds.{mode-shown}
 use Rattle.dp_core.proofs.world.World.modes.Goals as goal

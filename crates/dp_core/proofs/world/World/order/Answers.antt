@@ -1,4 +1,4 @@
-use Rattle.std.proofs.Common.{◌∙◌, ◌≡◌, Option, ap}
+use Rattle.std.proofs.Common.{◌∙◌, Option, ap}
 use Rattle.dp_core.specs.Voting.{Said}
 use Rattle.dp_core.specs.WorldState.{after, after_order, changed}
 use Rattle.dp_core.proofs.Worlds.{order-none}

@@ -1,4 +1,4 @@
-use Rattle.std.proofs.Common.{◌∙◌, ◌<◌, ap, length, sym, subst, refl, set, arith}
+use Rattle.std.proofs.Common.{◌∙◌, ap, refl, arith}
 use Rattle.dp_core.specs.Computing.{ran, running}
 use Rattle.dp_core.specs.WorldState.{WorldState, after}
 use Rattle.dp_core.specs.WorldView.{world_of}

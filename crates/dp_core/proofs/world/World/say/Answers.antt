@@ -1,4 +1,4 @@
-use Rattle.std.proofs.Common.{◌∙◌, ◌<◌, ◌≡◌, List, ap, length, refl, rules, set, subst, sym}
+use Rattle.std.proofs.Common.{◌∙◌, ◌<◌, List, ap, length, rules, set, subst, sym}
 use Rattle.std.proofs.Math.Facts.{to_z-of_z}
 use Rattle.arrayvec.proofs.ArrayVecLemmas.{items-with_items}
 use Rattle.dp_core.specs.WorldState.{WorldState, after}

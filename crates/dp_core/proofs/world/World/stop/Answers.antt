@@ -1,4 +1,4 @@
-use Rattle.std.proofs.Common.{◌∙◌, ◌<◌, ap, arith, length, refl}
+use Rattle.std.proofs.Common.{◌∙◌, ap, arith, refl}
 use Rattle.dp_core.specs.Computing.{stopped}
 use Rattle.dp_core.specs.WorldState.{after}
 use Rattle.dp_core.specs.WorldView.{world_of}

@@ -1,4 +1,4 @@
-use Rattle.std.proofs.Common.{◌∙◌, ◌+◌, ◌≡◌, ◌<◌, ◌≤◌, List, Some, ap, arith, length, map, refl, subst, sym, ℕ}
+use Rattle.std.proofs.Common.{◌∙◌, ◌+◌, ◌≡◌, List, Some, ap, arith, length, subst, sym, ℕ}
 use Rattle.std.specs.Prelude.{slice_get}
 use Rattle.dp_core.specs.Computing.{Computing, heard_frame}
 use Rattle.dp_core.specs.WorldView.{IsInStep}
