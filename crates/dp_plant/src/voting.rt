@@ -7,9 +7,10 @@ pub enum Mode {
 }
 
 /// What a voter gives its thruster for a cycle, in newtons: a force that the orders of this cycle agree on, the last such force, or none.
-#[derive(Clone, Copy, Debug, PartialEq, Eq)]
+#[derive(Clone, Copy, Debug, Default, PartialEq, Eq)]
 pub enum Ballot {
     Fresh(i64),
     Held(i64),
+    #[default]
     Zero,
 }
