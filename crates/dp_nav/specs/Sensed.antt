@@ -1,0 +1,16 @@
+-- What a sentence says on a wire.
+use Rattle.std.specs.Prelude.{ℕ, List, Result, Err, codes, if◌then◌else◌}
+use Rattle.std.specs.Str.{bytes_eq}
+use Rattle.dp_nav.specs.Gga.{fix_of}
+use Rattle.dp_nav.specs.declared.reading.Reading.{Reading}
+use Rattle.dp_nav.specs.declared.reading.Skip.{Skip}
+use Rattle.dp_nav.specs.declared.reading.Skip.TheVariants.{OtherFormatter}
+use Rattle.dp_nav.specs.declared.reading.WireKind.{WireKind}
+use Rattle.dp_nav.specs.declared.reading.WireKind.TheVariants.{Position, Gyro, Wind, Group}
+
+-- the reading of a sentence's formatter and data fields
+unfoldable pub sensed_of : WireKind → List ℕ → List (List ℕ) → Result Reading Skip
+sensed_of Position formatter fields = if bytes_eq formatter (codes "GGA") then fix_of fields else Err OtherFormatter
+sensed_of Gyro formatter fields = Err OtherFormatter
+sensed_of Wind formatter fields = Err OtherFormatter
+sensed_of Group formatter fields = Err OtherFormatter

@@ -1,0 +1,105 @@
+//! Decimal numbers as they stand in fields: `4807.038`.
+ghost use Rattle.std.specs.Prelude.{◌≡◌, ◌<◌, ◌≤◌, ◌^◌, length, take, MatchOption, false, true};
+ghost use Rattle.std.specs.List.{list_all, position_or_len};
+ghost use Rattle.std.specs.Char.{is_ascii_digit};
+ghost use Rattle.dp_nav.specs.Decimals as Decimals;
+ghost use Rattle.dp_nav.specs.Decimals.{is_decimal, is_point};
+
+/// The most digits of a decimal.
+const MOST_DIGITS: usize = 20;
+
+/// The most digits of a number.
+const NUMBER_DIGITS: usize = 18;
+
+/// The digits of a decimal before its point, and those after it.
+#[derive(Clone, Copy)]
+pub(crate) struct Decimal<'a> {
+    pub whole: &'a [u8],
+    pub decimals: &'a [u8],
+}
+
+fn all_digits(text: &[u8]) -> bool
+    ensures { result ≡ list_all is_ascii_digit text.now }
+{
+    text.iter().all(|byte| byte.is_ascii_digit())
+}
+
+/// How many bytes come before the point.
+fn before_point(text: &[u8]) -> usize
+    ensures { result ≡ position_or_len is_point text.now }
+{
+    text.iter().take_while(|byte| **byte != b'.').count()
+}
+
+impl<'a> Decimal<'a> {
+    /// What comes before the first point, and what comes after it.
+    fn cut(text: &'a [u8]) -> Decimal<'a>
+        ensures whole { result.whole.now ≡ Decimals.whole text.now }
+        ensures decimals { result.decimals.now ≡ Decimals.decimals text.now }
+    {
+        let at = before_point(text);
+        if at < text.len() {
+            Decimal {
+                whole: &text[..at],
+                decimals: &text[at + 1..],
+            }
+        } else {
+            Decimal {
+                whole: text,
+                decimals: &[],
+            }
+        }
+    }
+
+    /// One digit or more, then nothing, or a point and any digits, none too; at most 20 digits.
+    fn is_sound(&self) -> bool
+        ensures { result ≡ Decimals.is_sound self.now.whole.now self.now.decimals.now }
+    {
+        !self.whole.is_empty()
+            && all_digits(self.whole)
+            && all_digits(self.decimals)
+            && self.whole.len() + self.decimals.len() <= MOST_DIGITS
+    }
+
+    /// The decimal that a text is.
+    #[tactic(auto, unfolding(crate::specs::Decimals::is_decimal))]
+    pub(crate) fn read(text: &'a [u8]) -> Option<Decimal<'a>>
+        ensures { MatchOption result (is_decimal text.now ≡ false)
+            (λ d. (is_decimal text.now ≡ true) × (d.whole.now ≡ Decimals.whole text.now) × (d.decimals.now ≡ Decimals.decimals text.now)) }
+    {
+        let decimal = Decimal::cut(text);
+        if decimal.is_sound() {
+            Some(decimal)
+        } else {
+            None
+        }
+    }
+}
+
+/// The number of up to 18 digits, 0 where there are none.
+pub(crate) fn number(digits: &[u8]) -> u64
+    requires { length digits.now ≤ 18 }
+    ensures value { result ≡ Decimals.number digits.now }
+    ensures bound { result < 10 ^ length digits.now }
+{
+    dp_text::decimal(digits, NUMBER_DIGITS).unwrap_or(0)
+}
+
+/// The first `k` bytes, or all where there are fewer.
+fn front(text: &[u8], k: usize) -> &[u8]
+    ensures value { result.now ≡ take k text.now }
+    ensures few { length result.now ≤ k }
+{
+    if text.len() < k { text } else { &text[..k] }
+}
+
+/// The first `k` decimals as a whole number of 10^-k.
+#[tactic(auto, unfolding(crate::specs::Decimals::kept))]
+pub(crate) fn kept(decimals: &[u8], k: usize) -> u64
+    requires { k ≤ 9 }
+    ensures value { result ≡ Decimals.kept k decimals.now }
+    ensures bound { result < 10 ^ k }
+{
+    let front = front(decimals, k);
+    number(front) * 10u64.pow((k - front.len()) as u32)
+}
