@@ -1,74 +1,106 @@
 #!/usr/bin/env python3
-"""Compares the built program with a reference program on generated records.
+"""Compares the built program with a reference program on generated files.
 
-    tools/compare.py CASES SEED PROGRAM -- REFERENCE...
+    tools/compare.py CASES SEED STAGE PROGRAM -- REFERENCE...
 
-PROGRAM is the built program (crates/dp_app/out/dp_app after `rt ci`), REFERENCE a command that answers the same words. Each case is
-a random record: good and faulty lines, gaps of cycles, CR LF, a missing last line feed. Output and exit status have to be equal.
+PROGRAM is the built program (crates/dp_app/out/dp_app after `rt ci`), REFERENCE a command that answers the same words. STAGE says which
+words and files the cases have:
+
+    1   replay RECORD, records of plain local lines
+    2   replay RECORD SCRIPT, the same records, scripts of every verb
+    3   replay RECORD SCRIPT, records of all wires with sentences and plain forms, the same scripts
+
+Each case is random (see cases.py): good and faulty lines, gaps of cycles, either line end, a missing last line feed; now and then a file
+isn't there or a word is missing. Output and exit status have to be equal. A case that differs is made smaller, line by line, and printed.
 Nothing here is part of the gate.
 """
+import os
 import random
 import subprocess
 import sys
 import tempfile
 
-
-def number(rng):
-    kind = rng.randrange(12)
-    if kind == 0:
-        return str(rng.choice([8796093, -8796093, 8796094, -8796094]))
-    if kind == 1:
-        return rng.choice(["", "-", "-0", "+1", "1.5", "0x", "00012", "9" * 19])
-    return str(rng.randrange(-20000, 20001))
+sys.dont_write_bytecode = True
+import cases  # noqa: E402
 
 
-def line(rng, time):
-    kind = rng.randrange(40)
-    if kind == 0:
-        return rng.choice(["", "x", " ", "%d" % time, "%d pos3 L 0 0" % time, "%d pos0 G 1" % time])
-    if kind == 1:
-        return "%d pos0 L 1 2 3" % time
-    wire = rng.randrange(3)
-    if kind in (2, 3):
-        return "%d pos%d L %s %s" % (time, wire, number(rng), number(rng))
-    return "%d pos%d L %d %d" % (time, wire, rng.randrange(-20000, 20001), rng.randrange(-20000, 20001))
-
-
-def record(rng):
-    lines, time = [], 0
-    for _ in range(rng.randrange(60)):
-        time += rng.choice([0, 0, 0, 1, 300, 1000, 1000, 3500])
-        if rng.randrange(100) == 0:
-            time = max(0, time - rng.randrange(2000))
-        if rng.randrange(20) == 0:
-            lines.append("")
-        lines.append(line(rng, time))
-    end = rng.choice(["\n", "\n", "\r\n"])
-    text = "".join(one + end for one in lines)
-    return text[: -len(end)] if text and rng.randrange(4) == 0 else text
-
-
-def answer(command, name):
-    done = subprocess.run(command + ["replay", name], stdout=subprocess.PIPE, check=False)
+def answer(command, words):
+    done = subprocess.run(command + words, stdout=subprocess.PIPE, check=False)
     return done.returncode, done.stdout
+
+
+class Pair:
+    """The two programs, and a folder for the files of a case."""
+
+    def __init__(self, ours, theirs, folder):
+        self.ours, self.theirs = ours, theirs
+        self.names = [os.path.join(folder, "record"), os.path.join(folder, "script")]
+
+    def write(self, texts):
+        for name, text in zip(self.names, texts):
+            with open(name, "wb") as file:
+                file.write(text.encode("latin-1"))
+
+    def answers(self, texts, words=None):
+        self.write(texts)
+        if words is None:
+            words = ["replay"] + self.names[: len(texts)]
+        return answer(self.ours, words), answer(self.theirs, words)
+
+    def differ(self, texts):
+        ours, theirs = self.answers(texts)
+        return ours != theirs
+
+
+def odd_words(rng, names):
+    """Words that are no command line, or name a file that isn't there."""
+    gone = names[0] + ".gone"
+    return rng.choice([[], ["replay"], ["replay", gone], ["replay", gone, gone], ["replay", gone] + names[1:], ["replay", names[0], gone],
+                       ["play"] + names, ["replay"] + names + names[:1], ["replay", names[0], names[0]]])
+
+
+def smaller(pair, texts):
+    """The texts without each line that the difference doesn't need."""
+    for which in range(len(texts)):
+        lines = texts[which].splitlines(keepends=True)
+        place = 0
+        while place < len(lines) and len(lines) < 1000:
+            fewer = lines[:place] + lines[place + 1:]
+            tried = texts[:which] + ["".join(fewer)] + texts[which + 1:]
+            if pair.differ(tried):
+                lines, texts = fewer, tried
+            else:
+                place += 1
+    return texts
+
+
+def report(texts, ours, theirs):
+    print(*("%s %r" % one for one in zip(["record", "script"], texts)), sep="\n")
+    print("ours   %r" % (ours,), "theirs %r" % (theirs,), sep="\n")
+    sys.exit(1)
 
 
 def main():
     words = sys.argv[1:]
-    if len(words) < 5 or words[3] != "--":
+    if len(words) < 6 or words[4] != "--":
         sys.exit(__doc__)
-    cases, seed, program, reference = int(words[0]), int(words[1]), words[2], words[4:]
+    count, seed, stage = (int(word) for word in words[:3])
     rng = random.Random(seed)
-    for case in range(cases):
-        text = record(rng)
-        with tempfile.NamedTemporaryFile("wb", suffix=".txt") as file:
-            file.write(text.encode())
-            file.flush()
-            ours, theirs = answer([program], file.name), answer(reference, file.name)
-        if ours != theirs:
-            print("case %d of seed %d differs" % (case, seed), repr(text), ours, theirs, sep="\n")
-            sys.exit(1)
-    print("%d cases agree" % cases)
+    statuses = {}
+    with tempfile.TemporaryDirectory() as folder:
+        pair = Pair([words[3]], words[5:], folder)
+        for number in range(count):
+            texts = [text for text in cases.case(rng, stage) if text is not None]
+            odd = odd_words(rng, pair.names[: len(texts)]) if cases.one_in(rng, 40) else None
+            ours, theirs = pair.answers(texts, odd)
+            statuses[ours[0]] = statuses.get(ours[0], 0) + 1
+            if ours != theirs:
+                print("case %d of seed %d differs" % (number, seed), "" if odd is None else odd)
+                if odd is None:
+                    texts = smaller(pair, texts)
+                report(texts, *pair.answers(texts, odd))
+    print("%d cases agree; by exit status %s" % (count, sorted(statuses.items())))
 
 
-main()
+if __name__ == "__main__":
+    main()
