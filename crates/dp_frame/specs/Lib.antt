@@ -1,1 +1,14 @@
 pub mod LocalFrame
+pub mod Slots
+pub mod Frames
+pub mod Wires
+pub mod Senses
+pub mod Line
+pub mod Record
+pub mod Feeds
+pub mod Books
+pub mod LinesState
+pub mod Represents
+pub mod Cycles
+pub mod Laws
+pub mod Ranges

@@ -1,0 +1,12 @@
+pub mod SlotSteps
+pub mod TextSteps
+pub mod JudgedLines
+pub mod EmptyFrames
+pub mod GrowingLines
+pub mod Entering
+pub mod BookSteps
+pub mod FeedSteps
+pub mod FinishSteps
+pub mod Lasting
+pub mod CycleSteps
+pub mod Endings

@@ -1,0 +1,46 @@
+-- The ranges of what the lines of a record bring.
+use Rattle.std.specs.Prelude.{◌≡◌, ℕ, ◌+◌, ◌<◌, ◌^◌, ⊤, All, drop, None, IfSome}
+use Rattle.dp_plant.specs.declared.frames.Frame.{Frame}
+use Rattle.dp_plant.specs.declared.frames.Gust.{Gust}
+use Rattle.dp_plant.specs.Ranges.{IsVectorWithin}
+use Rattle.dp_plant.specs.FrameRanges.{IsFrameWithin}
+use Rattle.dp_frame.specs.declared.entry.Entry.{Entry}
+use Rattle.dp_frame.specs.declared.entry.Judged.{Judged}
+use Rattle.dp_frame.specs.declared.entry.Judged.TheVariants.{Good}
+use Rattle.dp_frame.specs.declared.entry.Sense.{Sense}
+use Rattle.dp_frame.specs.declared.entry.Sense.TheVariants.{At, Heading, Wind}
+use Rattle.dp_frame.specs.declared.feed.Feed.{Feed}
+use Rattle.dp_frame.specs.declared.feed.Feed.TheVariants.{Closed}
+use Rattle.dp_frame.specs.Wires.{IsWire}
+
+-- below 360 degrees, and 100 m/s
+abbrev pub IsGustWithin : Gust → Type 0
+IsGustWithin gust = (gust.angle < 36000) × (gust.speed < 100000)
+
+abbrev pub IsSenseWithin : Sense → Type 0
+IsSenseWithin (At place) = IsVectorWithin (2 ^ 43) place
+IsSenseWithin (Heading heading) = heading < 36000
+IsSenseWithin (Wind gust) = IsGustWithin gust
+IsSenseWithin other = ⊤
+
+-- an entry on a wire of a plant with so many groups
+pub record IsEntryWithin (groups : ℕ) (e : Entry) : Type 0 where
+  pub cycle : e.cycle < 2 ^ 20
+  pub wire : IsWire groups e.wire
+  pub sense : IsSenseWithin e.sense
+
+abbrev pub IsJudgedWithin : ℕ → Judged → Type 0
+IsJudgedWithin groups (Good e) = IsEntryWithin groups e
+IsJudgedWithin groups other = ⊤
+
+-- places, headings and winds are in range, and no group beyond the plant's reports
+pub record IsFrameInRange (groups : ℕ) (f : Frame) : Type 0 where
+  pub within : IsFrameWithin f
+  pub headings : All (λ s. IfSome s.last (λ heading. heading < 36000)) f.gyro
+  pub winds : All (λ s. IfSome s.last IsGustWithin) f.wind
+  pub lacking : All (λ s. s.last ≡ None) (drop groups f.group)
+
+-- the frames that an answer gives are in range
+abbrev pub IsFeedInRange : ℕ → Feed → Type 0
+IsFeedInRange groups (Closed frame empty) = IsFrameInRange groups frame × (frame.cycle + empty < 2 ^ 20)
+IsFeedInRange groups other = ⊤

@@ -1,0 +1,34 @@
+-- A reader of lines represents a text where its parts are what the definitions say of that text.
+use Rattle.std.specs.Prelude.{◌≡◌, ℕ, List, None, length, take}
+use Rattle.dp_plant.specs.declared.plant.Plant.{Plant}
+use Rattle.dp_frame.specs.declared.settings.Settings.{Settings}
+use Rattle.dp_frame.specs.declared.feed.Phase.TheVariants.{Open}
+use Rattle.dp_frame.specs.LocalFrame.{origin_of}
+use Rattle.dp_frame.specs.Record.{all_lines, ended_lines, unfinished_line}
+use Rattle.dp_frame.specs.Books.{BookRepresents}
+use Rattle.dp_frame.specs.LinesState.{LinesState}
+
+-- what of a plant its record is read with
+abbrev pub settings_of : Plant → Settings
+settings_of plant =
+    record { cycle_ms = plant.cycle_ms; groups = plant.groups; origin = origin_of plant }
+
+-- `finish` wasn't called
+abbrev pub IsOpen : LinesState → Type 0
+IsOpen s = s.phase ≡ Open
+
+-- the line that hasn't ended, as far as it is kept
+pub record KeepsFront (s : LinesState) (text : List ℕ) : Type 0 where
+  pub front : s.front ≡ take 193 (unfinished_line text)
+  pub front_len : s.front_len ≡ length (unfinished_line text)
+
+-- the bytes fed so far: only lines that end with a line feed are judged
+pub record Represents (s : LinesState) (text : List ℕ) : Type 0 where
+  pub bytes : s.bytes ≡ length text
+  pub lines : BookRepresents s.book (ended_lines text)
+  pub front : s.book.refusal ≡ None → KeepsFront s text
+
+-- the whole text, before and after the first call of `finish`, which judges the line that is left
+pub record RepresentsWhole (s : LinesState) (text : List ℕ) : Type 0 where
+  pub before : IsOpen s → Represents s text
+  pub after : ¬ (IsOpen s) → BookRepresents s.book (all_lines text)

@@ -1,0 +1,23 @@
+use crate::LineFault;
+use dp_plant::Frame;
+
+/// What a byte of a record, or its end, brings.
+#[derive(Clone, Copy, Debug, PartialEq, Eq)]
+pub enum Feed {
+    /// Nothing yet; at the end, nothing more.
+    More,
+    /// A frame came to its end, and so many empty ones follow it. Their cycles are below 2^20.
+    Closed { frame: Frame, empty: u64 },
+    /// This line, counted from 1, is the first that can't be taken: it is faulty.
+    Fault { line: u64, kind: LineFault },
+    /// This line is the first that can't be taken: it is sound, and of a cycle of 2^20 or more.
+    TooMany { line: u64, cycle: u64 },
+}
+
+/// How far a record was read: not to its end; its last line was judged; all was answered.
+#[derive(Clone, Copy)]
+pub(crate) enum Phase {
+    Open,
+    Last,
+    Done,
+}

@@ -1,0 +1,128 @@
+//! The judgement on one line.
+ghost use Rattle.std.specs.Prelude.{◌≡◌, ◌<◌, ◌≤◌, ◌+◌, ◌*◌, ◌^◌, length, IfSome, Option, Some, None, not};
+ghost use Rattle.std.specs.List.{prefix_len};
+ghost use Rattle.dp_text.specs.Parts.{is_space};
+ghost use Rattle.dp_frame.specs.Books.{IsReadable};
+ghost use Rattle.dp_frame.specs.Ranges.{IsJudgedWithin};
+ghost use Rattle.dp_frame.specs.Line.{judge, judge_rest, judge_time, judge_wire, name_len, number_of, time_len};
+ghost use Rattle.dp_frame.specs.Wires.{IsWire};
+
+use crate::LineFault;
+use crate::entry::{Entry, Judged};
+use crate::sensing::sense;
+use crate::settings::Settings;
+use crate::wires::wire;
+use dp_plant::Wire;
+
+const SPACE: u8 = b' ';
+
+const LONGEST: usize = 192;
+
+const MOST_DIGITS: usize = 15;
+
+const CYCLES: u64 = 1 << 20;
+
+/// How many digits a line begins with.
+fn time_len(line: &[u8]) -> usize
+    ensures { result ≡ time_len line.now }
+{
+    line.iter().take_while(|byte| byte.is_ascii_digit()).count()
+}
+
+/// How many bytes come before the next space, or the end.
+fn name_len(text: &[u8]) -> usize
+    ensures { result ≡ name_len text.now }
+{
+    text.iter().take_while(|byte| **byte != SPACE).count()
+}
+
+/// The number that up to 15 digits make.
+fn number(digits: &[u8]) -> u64
+    requires { length digits.now ≤ 15 }
+    ensures { result ≡ number_of digits.now }
+{
+    let mut number: u64 = 0;
+    for byte in digits {
+        number = number * 10 + u64::from(byte.saturating_sub(b'0'));
+    }
+    number
+}
+
+/// A line of a known wire, or of none.
+#[tactic(auto, unfolding(crate::specs::Line::judge_rest))]
+fn judge_rest(settings: &Settings, time: u64, rest: &[u8], wire: Option<Wire>) -> Judged
+    requires readable { IsReadable settings.now }
+    requires wire { IfSome wire (λ w. IsWire settings.now.groups w) }
+    ensures value { result ≡ judge_rest settings.now time rest.now wire }
+    ensures within { IsJudgedWithin settings.now.groups result }
+{
+    let Some(wire) = wire else {
+        return Judged::Faulty(LineFault::UnknownWire);
+    };
+    let cycle = time / settings.cycle_ms;
+    if cycle >= CYCLES {
+        return Judged::TooMany { cycle };
+    }
+    Judged::Good(Entry {
+        time,
+        cycle,
+        wire,
+        sense: sense(settings, wire, rest),
+    })
+}
+
+/// What stands after the time.
+#[tactic(auto, unfolding(crate::specs::Line::judge_wire))]
+fn judge_wire(settings: &Settings, time: u64, text: &[u8]) -> Judged
+    requires { IsReadable settings.now }
+    ensures value { result ≡ judge_wire settings.now time text.now }
+    ensures within { IsJudgedWithin settings.now.groups result }
+{
+    let count = name_len(text);
+    if count == 0 {
+        return Judged::Faulty(LineFault::NoWire);
+    }
+    let rest = if count < text.len() {
+        &text[count + 1..]
+    } else {
+        &[]
+    };
+    judge_rest(settings, time, rest, wire(settings.groups, &text[..count]))
+}
+
+/// A line that isn't empty, nor too long.
+#[tactic(auto, unfolding(crate::specs::Line::judge_time))]
+fn judge_time(settings: &Settings, last: u64, line: &[u8]) -> Judged
+    requires { IsReadable settings.now }
+    ensures value { result ≡ judge_time settings.now last line.now }
+    ensures within { IsJudgedWithin settings.now.groups result }
+{
+    let count = time_len(line);
+    if count == 0 {
+        return Judged::Faulty(LineFault::NoTime);
+    }
+    if count > MOST_DIGITS || count >= line.len() || line[count] != SPACE {
+        return Judged::Faulty(LineFault::BadTime);
+    }
+    let now = number(&line[..count]);
+    if now < last {
+        return Judged::Faulty(LineFault::TimeBack { before: last, now });
+    }
+    judge_wire(settings, now, &line[count + 1..])
+}
+
+/// The judgement on a line, without its end, after a line of the time `last`.
+#[tactic(auto, unfolding(crate::specs::Line::judge))]
+pub(crate) fn judge(settings: &Settings, last: u64, line: &[u8]) -> Judged
+    requires { IsReadable settings.now }
+    ensures value { result ≡ judge settings.now last line.now }
+    ensures within { IsJudgedWithin settings.now.groups result }
+{
+    if line.is_empty() {
+        return Judged::Blank;
+    }
+    if line.len() > LONGEST {
+        return Judged::Faulty(LineFault::LongLine);
+    }
+    judge_time(settings, last, line)
+}
