@@ -196,3 +196,6 @@ impl Lines {
         answer
     }
 }
+
+#[cfg(test)]
+mod tests;
