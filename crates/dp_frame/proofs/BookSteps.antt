@@ -25,7 +25,8 @@ pub record Ready (b : Book) (lines : List (List ℕ)) (line : List ℕ) (j : Jud
   pub judged : judge b.settings (last_time lines) line ≡ j
   pub keeps : Keeps b lines
 
-pub ready : (b : Book) (lines : List (List ℕ)) (line : List ℕ) (j : Judged) → b.refusal ≡ None → j ≡ judge b.settings b.last line → BookRepresents b lines → Ready b lines line j
+pub ready : (b : Book) (lines : List (List ℕ)) (line : List ℕ) (j : Judged) → b.refusal ≡ None → j ≡ judge b.settings b.last line
+    → BookRepresents b lines → Ready b lines line j
 ready b lines line j none is r =
     let k = r.keeps none in
     record {
@@ -34,7 +35,8 @@ ready b lines line j none is r =
       keeps = k;
     }
 
-pub represents-blank : (b : Book) (lines : List (List ℕ)) (line : List ℕ) → b.refusal ≡ None → Ready b lines line Blank → BookRepresents (record b { number = b.number + 1 }) (line ∷ lines)
+pub represents-blank : (b : Book) (lines : List (List ℕ)) (line : List ℕ) → b.refusal ≡ None → Ready b lines line Blank
+    → BookRepresents (record b { number = b.number + 1 }) (line ∷ lines)
 represents-blank b lines line none r = record {
   refusal = none ∙ sym (refusal-more b.settings lines line Blank r.ok r.judged);
   keeps = λ _. record {
@@ -72,14 +74,17 @@ unfolding answer
 answer-good b lines line e r =
     rw (refusal-more b.settings lines line (Good e) r.ok r.judged, entries-good b.settings lines line e r.ok r.judged)
 
-pub ready-follows : (b : Book) (lines : List (List ℕ)) (line : List ℕ) (e : Entry) → 0 < b.settings.cycle_ms → Ready b lines line (Good e) → Follows (entries b.settings lines) e
+pub ready-follows : (b : Book) (lines : List (List ℕ)) (line : List ℕ) (e : Entry) → 0 < b.settings.cycle_ms → Ready b lines line (Good e)
+    → Follows (entries b.settings lines) e
 ready-follows b lines line e some r = follows-good b.settings lines line e some r.ok r.judged
 
-refused-at : (b : Book) (lines : List (List ℕ)) (line : List ℕ) (j : Judged) (f : Refusal) → Ready b lines line j → refusal_of (b.number + 1) j ≡ Some f → first_refusal b.settings (line ∷ lines) ≡ Some f
+refused-at : (b : Book) (lines : List (List ℕ)) (line : List ℕ) (j : Judged) (f : Refusal) → Ready b lines line j
+    → refusal_of (b.number + 1) j ≡ Some f → first_refusal b.settings (line ∷ lines) ≡ Some f
 refused-at b lines line j f r is =
     refusal-more b.settings lines line j r.ok r.judged ∙ ap (λ n. refusal_of (n + 1) j) (sym r.keeps.number) ∙ is
 
-pub represents-refused : (b : Book) (lines : List (List ℕ)) (line : List ℕ) (j : Judged) (f : Refusal) → Ready b lines line j → refusal_of (b.number + 1) j ≡ Some f
+pub represents-refused : (b : Book) (lines : List (List ℕ)) (line : List ℕ) (j : Judged) (f : Refusal) → Ready b lines line j
+    → refusal_of (b.number + 1) j ≡ Some f
     → BookRepresents record { settings = b.settings; refusal = Some f; number = b.number + 1; last = b.last; begun = b.begun; kept = b.kept } (line ∷ lines)
 represents-refused b lines line j f r is = record {
   refusal = sym (refused-at b lines line j f r is);
@@ -89,7 +94,8 @@ represents-refused b lines line j f r is = record {
     some_none : (f : Refusal) → Some f ≡ None → ⊥
     some_none f is = cc
 
-pub answer-refused : (b : Book) (lines : List (List ℕ)) (line : List ℕ) (j : Judged) (f : Refusal) → Ready b lines line j → refusal_of (b.number + 1) j ≡ Some f
+pub answer-refused : (b : Book) (lines : List (List ℕ)) (line : List ℕ) (j : Judged) (f : Refusal) → Ready b lines line j
+    → refusal_of (b.number + 1) j ≡ Some f
     → told f ≡ answer b.settings lines (line ∷ lines)
 unfolding answer
 answer-refused b lines line j f r is = rw (refused-at b lines line j f r is)
@@ -112,5 +118,6 @@ unfolding is_begun last_frame last_cycle
 last_frame-by [] begun kept a b = rw a
 last_frame-by (e ∷ es) begun kept a b = rw (a, b)
 
-pub last_frame-is : (b : Book) (lines : List (List ℕ)) → BookRepresents b lines → b.refusal ≡ None → (if b.begun then Closed b.kept 0 else More) ≡ last_frame (entries b.settings lines)
+pub last_frame-is : (b : Book) (lines : List (List ℕ)) → BookRepresents b lines → b.refusal ≡ None
+    → (if b.begun then Closed b.kept 0 else More) ≡ last_frame (entries b.settings lines)
 last_frame-is b lines r none = let k = r.keeps none in last_frame-by (entries b.settings lines) b.begun b.kept k.begun k.kept

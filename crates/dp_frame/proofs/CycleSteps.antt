@@ -86,7 +86,8 @@ pub given-told : (r : Refusal) → given (told r) ≡ []
 given-told (refusal.Faulty line kind) = refl
 given-told (refusal.TooMany line cycle) = refl
 
-pub answer-going : (p : Settings) (before after : List (List ℕ)) → first_refusal p after ≡ None → answer p before after ≡ closed (entries p before) (entries p after)
+pub answer-going : (p : Settings) (before after : List (List ℕ)) → first_refusal p after ≡ None
+    → answer p before after ≡ closed (entries p before) (entries p after)
 unfolding answer
 answer-going p before after ok = rw ok
 
@@ -123,7 +124,8 @@ pub frames-byte : (p : Settings) (t : List ℕ) (b : ℕ) → 0 < p.cycle_ms
     → frames_so_far p (ended_lines (t ++ b ∷ [])) ≡ frames_so_far p (ended_lines t) ++ given (answer p (ended_lines t) (ended_lines (t ++ b ∷ [])))
 frames-byte p t b some = by_byte (is_newline b) refl
   where
-    by_byte : (v : Bool) → is_newline b ≡ v → frames_so_far p (ended_lines (t ++ b ∷ [])) ≡ frames_so_far p (ended_lines t) ++ given (answer p (ended_lines t) (ended_lines (t ++ b ∷ [])))
+    by_byte : (v : Bool) → is_newline b ≡ v
+        → frames_so_far p (ended_lines (t ++ b ∷ [])) ≡ frames_so_far p (ended_lines t) ++ given (answer p (ended_lines t) (ended_lines (t ++ b ∷ [])))
     by_byte false other = rw (ended-other t b other, given-still p (ended_lines t)) (sym (append-nil _))
     by_byte true is = rw (newline-is b is, ended-newline t) (frames-line p (ended_lines t) (stripped (unfinished_line t)) some)
 

@@ -31,14 +31,17 @@ record-refused : (p : Settings) (lines : List (List ℕ)) (r : Refusal) → firs
 unfolding record_frames record_length frames_so_far
 record-refused p lines r is = rw is
 
-record-going : (p : Settings) (lines : List (List ℕ)) → first_refusal p lines ≡ None → record_frames p lines ≡ frames_so_far p lines ++ given (last_frame (entries p lines))
+record-going : (p : Settings) (lines : List (List ℕ)) → first_refusal p lines ≡ None
+    → record_frames p lines ≡ frames_so_far p lines ++ given (last_frame (entries p lines))
 unfolding record_frames record_length frames_so_far
 record-going p lines ok = rw ok (last-given (entries p lines))
 
-record-last : (p : Settings) (lines : List (List ℕ)) → record_frames p lines ≡ frames_so_far p lines ++ given (told_or (first_refusal p lines) (last_frame (entries p lines)))
+record-last : (p : Settings) (lines : List (List ℕ))
+    → record_frames p lines ≡ frames_so_far p lines ++ given (told_or (first_refusal p lines) (last_frame (entries p lines)))
 record-last p lines = by_refusal (first_refusal p lines) refl
   where
-    by_refusal : (r : Option Refusal) → first_refusal p lines ≡ r → record_frames p lines ≡ frames_so_far p lines ++ given (told_or (first_refusal p lines) (last_frame (entries p lines)))
+    by_refusal : (r : Option Refusal) → first_refusal p lines ≡ r
+        → record_frames p lines ≡ frames_so_far p lines ++ given (told_or (first_refusal p lines) (last_frame (entries p lines)))
     by_refusal (Some r) is = rw (is, given-told r) (record-refused p lines r is ∙ sym (append-nil _))
     by_refusal None is = rw is (record-going p lines is)
 
@@ -73,12 +76,14 @@ finish-gives p t Done some = by_refusal (first_refusal p (all_lines t))
     by_refusal (Some r) = rw (given-told r) (sym (append-nil _))
     by_refusal None = sym (append-nil _)
 
-closed-tells : (v : Bool) (frame : Frame) (empty : ℕ) → is_more (if v then Closed frame empty else More) ≡ false → is_closed (if v then Closed frame empty else More) ≡ false → ⊥
+closed-tells : (v : Bool) (frame : Frame) (empty : ℕ) → is_more (if v then Closed frame empty else More) ≡ false
+    → is_closed (if v then Closed frame empty else More) ≡ false → ⊥
 closed-tells true frame empty moved shut = cc
 closed-tells false frame empty moved shut = cc
 
 -- an answer that neither waits nor closes a frame tells of a line
-told-when : (p : Settings) (before after : List (List ℕ)) → is_more (answer p before after) ≡ false → is_closed (answer p before after) ≡ false → (r : Refusal) × (first_refusal p after ≡ Some r)
+told-when : (p : Settings) (before after : List (List ℕ)) → is_more (answer p before after) ≡ false → is_closed (answer p before after) ≡ false
+    → (r : Refusal) × (first_refusal p after ≡ Some r)
 unfolding answer closed
 told-when p before after moved shut = by_refusal (first_refusal p after) refl moved shut
   where
@@ -87,16 +92,20 @@ told-when p before after moved shut = by_refusal (first_refusal p after) refl mo
     by_refusal (Some r) is moved shut = (r, is)
     by_refusal None is moved shut = absurd (closed-tells (nat_lt (last_cycle (entries p before)) (last_cycle (entries p after))) _ _ moved shut)
 
-all-given : (p : Settings) (t : List ℕ) (phase : Phase) → 0 < p.cycle_ms → is_closed (ending p t phase) ≡ false → frames_given p t phase ≡ frames_given p t (phase_after p t phase)
+all-given : (p : Settings) (t : List ℕ) (phase : Phase) → 0 < p.cycle_ms → is_closed (ending p t phase) ≡ false
+    → frames_given p t phase ≡ frames_given p t (phase_after p t phase)
 all-given p t phase some shut =
     sym (finish-gives p t phase some ∙ ap (λ l. frames_given p t phase ++ l) (given-none (ending p t phase) shut) ∙ append-nil (frames_given p t phase))
 
-pub finish-gives-all : (p : Settings) (t : List ℕ) (phase : Phase) → 0 < p.cycle_ms → is_closed (ending p t phase) ≡ false → frames_given p t phase ≡ record_frames p (all_lines t)
+pub finish-gives-all : (p : Settings) (t : List ℕ) (phase : Phase) → 0 < p.cycle_ms → is_closed (ending p t phase) ≡ false
+    → frames_given p t phase ≡ record_frames p (all_lines t)
 unfolding frames_given phase_after ending
 finish-gives-all p t Open some shut = by_answer (is_more (answer p (ended_lines t) (all_lines t))) refl (all-given p t Open some shut) shut
   where
-    by_answer : (v : Bool) → is_more (answer p (ended_lines t) (all_lines t)) ≡ v → frames_so_far p (ended_lines t) ≡ frames_given p t (if v then Done else Last)
-        → is_closed (if v then last_frame (entries p (all_lines t)) else answer p (ended_lines t) (all_lines t)) ≡ false → frames_so_far p (ended_lines t) ≡ record_frames p (all_lines t)
+    by_answer : (v : Bool) → is_more (answer p (ended_lines t) (all_lines t)) ≡ v
+        → frames_so_far p (ended_lines t) ≡ frames_given p t (if v then Done else Last)
+        → is_closed (if v then last_frame (entries p (all_lines t)) else answer p (ended_lines t) (all_lines t)) ≡ false
+        → frames_so_far p (ended_lines t) ≡ record_frames p (all_lines t)
     by_answer true is all shut = all
     by_answer false is all shut =
         let r = told-when p (ended_lines t) (all_lines t) is shut in
@@ -162,18 +171,21 @@ closed-cycle : (before after : List Entry) (frame : Frame) (empty : ℕ) → clo
 unfolding closed
 closed-cycle before after frame empty is = by_test (nat_lt (last_cycle before) (last_cycle after)) _ is
   where
-    by_test : (v : Bool) (n : ℕ) → (if v then Closed (frame_of (last_cycle before) after) n else More) ≡ Closed frame empty → frame.cycle ≡ last_cycle before
+    by_test : (v : Bool) (n : ℕ) → (if v then Closed (frame_of (last_cycle before) after) n else More) ≡ Closed frame empty
+        → frame.cycle ≡ last_cycle before
     by_test true n is =
         let same : frame_of (last_cycle before) after ≡ frame = cc in
         rw (← same) (frame_of-cycle (last_cycle before) after)
     by_test false n is = cc
 
-answer-cycle : (p : Settings) (before after : List (List ℕ)) (frame : Frame) (empty : ℕ) → answer p before after ≡ Closed frame empty → frame.cycle ≡ length (frames_so_far p before)
+answer-cycle : (p : Settings) (before after : List (List ℕ)) (frame : Frame) (empty : ℕ) → answer p before after ≡ Closed frame empty
+    → frame.cycle ≡ length (frames_so_far p before)
 unfolding answer frames_so_far
 answer-cycle p before after frame empty is =
     rw (length-frames (last_cycle (entries p before)) (entries p before)) (by_refusal (first_refusal p after) is)
   where
-    by_refusal : (r : Option Refusal) → told_or r (closed (entries p before) (entries p after)) ≡ Closed frame empty → frame.cycle ≡ last_cycle (entries p before)
+    by_refusal : (r : Option Refusal) → told_or r (closed (entries p before) (entries p after)) ≡ Closed frame empty
+        → frame.cycle ≡ last_cycle (entries p before)
     by_refusal (Some r) is = absurd (told-closed r frame empty is)
     by_refusal None is = closed-cycle (entries p before) (entries p after) frame empty is
 
@@ -184,23 +196,27 @@ last-cycle (e ∷ es) frame empty is =
     let same : frame_of e.cycle (e ∷ es) ≡ frame = cc in
     rw (← same) (frame_of-cycle e.cycle (e ∷ es))
 
-last-length : (p : Settings) (lines : List (List ℕ)) (frame : Frame) (empty : ℕ) → last_frame (entries p lines) ≡ Closed frame empty → frame.cycle ≡ length (frames_so_far p lines)
+last-length : (p : Settings) (lines : List (List ℕ)) (frame : Frame) (empty : ℕ) → last_frame (entries p lines) ≡ Closed frame empty
+    → frame.cycle ≡ length (frames_so_far p lines)
 unfolding frames_so_far
 last-length p lines frame empty is = rw (length-frames (last_cycle (entries p lines)) (entries p lines)) (last-cycle (entries p lines) frame empty is)
 
-ending-cycle : (p : Settings) (t : List ℕ) (phase : Phase) (frame : Frame) (empty : ℕ) → 0 < p.cycle_ms → ending p t phase ≡ Closed frame empty → frame.cycle ≡ length (frames_given p t phase)
+ending-cycle : (p : Settings) (t : List ℕ) (phase : Phase) (frame : Frame) (empty : ℕ) → 0 < p.cycle_ms → ending p t phase ≡ Closed frame empty
+    → frame.cycle ≡ length (frames_given p t phase)
 unfolding frames_given ending
 ending-cycle p t Open frame empty some is = by_answer (is_more (answer p (ended_lines t) (all_lines t))) refl is
   where
     by_answer : (v : Bool) → is_more (answer p (ended_lines t) (all_lines t)) ≡ v
-        → (if v then last_frame (entries p (all_lines t)) else answer p (ended_lines t) (all_lines t)) ≡ Closed frame empty → frame.cycle ≡ length (frames_so_far p (ended_lines t))
+        → (if v then last_frame (entries p (all_lines t)) else answer p (ended_lines t) (all_lines t)) ≡ Closed frame empty
+        → frame.cycle ≡ length (frames_so_far p (ended_lines t))
     by_answer true moved is =
         let same : frames_so_far p (all_lines t) ≡ frames_so_far p (ended_lines t) = frames-all p t some ∙ rw (more-is _ moved) (append-nil _) in
         last-length p (all_lines t) frame empty is ∙ ap length same
     by_answer false moved is = answer-cycle p (ended_lines t) (all_lines t) frame empty is
 ending-cycle p t Last frame empty some is = by_refusal (first_refusal p (all_lines t)) is
   where
-    by_refusal : (r : Option Refusal) → told_or r (last_frame (entries p (all_lines t))) ≡ Closed frame empty → frame.cycle ≡ length (frames_so_far p (all_lines t))
+    by_refusal : (r : Option Refusal) → told_or r (last_frame (entries p (all_lines t))) ≡ Closed frame empty
+        → frame.cycle ≡ length (frames_so_far p (all_lines t))
     by_refusal (Some r) is = absurd (told-closed r frame empty is)
     by_refusal None is = last-length p (all_lines t) frame empty is
 ending-cycle p t Done frame empty some is = by_refusal (first_refusal p (all_lines t)) is
@@ -254,7 +270,8 @@ answer-tells : (p : Settings) (before after : List (List ℕ)) → Tells (first_
 unfolding answer
 answer-tells p before after = tells (first_refusal p after) (closed (entries p before) (entries p after)) (closed-quiet (entries p before) (entries p after))
 
-last-tells : (p : Settings) (t : List ℕ) → Tells (first_refusal p (all_lines t)) (told_or (first_refusal p (all_lines t)) (last_frame (entries p (all_lines t))))
+last-tells : (p : Settings) (t : List ℕ)
+    → Tells (first_refusal p (all_lines t)) (told_or (first_refusal p (all_lines t)) (last_frame (entries p (all_lines t))))
 last-tells p t = tells (first_refusal p (all_lines t)) _ (last-quiet (entries p (all_lines t)))
 
 ending-tells : (p : Settings) (t : List ℕ) (phase : Phase) → Tells (first_refusal p (all_lines t)) (ending p t phase)

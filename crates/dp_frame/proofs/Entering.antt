@@ -20,7 +20,8 @@ is_less a b lt = grind (arith, nat_tests)
 pub is_not_less : (a b : ℕ) → a ≡ b → nat_lt a b ≡ false
 is_not_less a b e = grind (arith, nat_tests)
 
-pub closed-later : (e : Entry) (es : List Entry) → last_cycle es < e.cycle → closed es (e ∷ es) ≡ Closed (frame_of (last_cycle es) es) (e.cycle - last_cycle es - 1)
+pub closed-later : (e : Entry) (es : List Entry) → last_cycle es < e.cycle
+    → closed es (e ∷ es) ≡ Closed (frame_of (last_cycle es) es) (e.cycle - last_cycle es - 1)
 unfolding closed last_cycle
 closed-later e es lt = rw (is_less (last_cycle es) e.cycle lt, frame-later (last_cycle es) e es lt)
 
@@ -28,7 +29,8 @@ pub closed-same : (e : Entry) (es : List Entry) → last_cycle es ≡ e.cycle �
 unfolding closed last_cycle
 closed-same e es eq = rw (is_not_less (last_cycle es) e.cycle eq)
 
-pub same_cycle : (e : Entry) (es : List Entry) (kept : Frame) → kept ≡ frame_of (last_cycle es) es → Follows es e → e.cycle ≤ kept.cycle → last_cycle es ≡ e.cycle
+pub same_cycle : (e : Entry) (es : List Entry) (kept : Frame) → kept ≡ frame_of (last_cycle es) es → Follows es e → e.cycle ≤ kept.cycle
+    → last_cycle es ≡ e.cycle
 unfolding frame_of
 same_cycle e es kept was f le =
     let k : kept.cycle ≡ last_cycle es = rw was in omega (arith, f.later)

@@ -26,7 +26,8 @@ some_none : (r : Refusal) → Some r ≡ None → ⊥
 some_none r is = cc
 
 -- the first line that can't be taken stays it, whatever byte comes
-pub ended-refusal : (p : Settings) (t : List ℕ) (b : ℕ) (r : Refusal) → first_refusal p (ended_lines t) ≡ Some r → first_refusal p (ended_lines (t ++ b ∷ [])) ≡ Some r
+pub ended-refusal : (p : Settings) (t : List ℕ) (b : ℕ) (r : Refusal) → first_refusal p (ended_lines t) ≡ Some r
+    → first_refusal p (ended_lines (t ++ b ∷ [])) ≡ Some r
 ended-refusal p t b r is = by_byte (is_newline b) refl
   where
     by_byte : (v : Bool) → is_newline b ≡ v → first_refusal p (ended_lines (t ++ b ∷ [])) ≡ Some r
@@ -65,7 +66,8 @@ take-snoc n u b =
       | inr le ↦ rw (take-all n u le)
     ]
 
-pub represents-other : (s : LinesState) (t : List ℕ) (b : ℕ) (front : List ℕ) → is_newline b ≡ false → s.book.refusal ≡ None → Represents s t → front ≡ take 193 (s.front ++ b ∷ [])
+pub represents-other : (s : LinesState) (t : List ℕ) (b : ℕ) (front : List ℕ) → is_newline b ≡ false → s.book.refusal ≡ None → Represents s t
+    → front ≡ take 193 (s.front ++ b ∷ [])
     → Represents record { book = s.book; front = front; front_len = s.front_len + 1; bytes = s.bytes + 1; phase = s.phase } (t ++ b ∷ [])
 represents-other s t b front other none was is =
     let k = was.front none in
@@ -131,7 +133,8 @@ pub answer-newline : (p : Settings) (t : List ℕ) (line : List ℕ) → first_r
 answer-newline p t line ok (inl is) = rw (ended-newline t, is)
 answer-newline p t line ok (inr long) = rw (ended-newline t) (answer-long p (ended_lines t) line _ ok long.0 long.1)
 
-pub represents-newline : (s : LinesState) (b : Book) (t : List ℕ) (line : List ℕ) → b.settings ≡ s.book.settings → s.book.refusal ≡ None → Represents s t
+pub represents-newline : (s : LinesState) (b : Book) (t : List ℕ) (line : List ℕ) → b.settings ≡ s.book.settings → s.book.refusal ≡ None
+    → Represents s t
     → (line ≡ stripped (unfinished_line t)) ⊎ ((192 < length line) × (192 < length (stripped (unfinished_line t))))
     → BookRepresents b (line ∷ ended_lines t)
     → Represents record { book = b; front = []; front_len = 0; bytes = s.bytes + 1; phase = s.phase } (t ++ 10 ∷ [])

@@ -55,21 +55,25 @@ front-cases u front is =
     ]
 
 book-left : (b : Book) (t : List ℕ) (front : List ℕ) → first_refusal b.settings (ended_lines t) ≡ None → (length (unfinished_line t) ≡ 0 → ⊥)
-    → (front ≡ unfinished_line t) ⊎ ((192 < length front) × (192 < length (unfinished_line t))) → BookRepresents b (front ∷ ended_lines t) → BookRepresents b (all_lines t)
+    → (front ≡ unfinished_line t) ⊎ ((192 < length front) × (192 < length (unfinished_line t))) → BookRepresents b (front ∷ ended_lines t)
+    → BookRepresents b (all_lines t)
 book-left b t front ok some (inl is) r = rw (all-left t some) (subst (λ l. BookRepresents b (l ∷ ended_lines t)) is r)
 book-left b t front ok some (inr long) r = rw (all-left t some) (represents-long b (ended_lines t) front _ ok long.0 long.1 r)
 
 answer-left : (p : Settings) (t : List ℕ) (front : List ℕ) → first_refusal p (ended_lines t) ≡ None → (length (unfinished_line t) ≡ 0 → ⊥)
-    → (front ≡ unfinished_line t) ⊎ ((192 < length front) × (192 < length (unfinished_line t))) → answer p (ended_lines t) (front ∷ ended_lines t) ≡ answer p (ended_lines t) (all_lines t)
+    → (front ≡ unfinished_line t) ⊎ ((192 < length front) × (192 < length (unfinished_line t)))
+    → answer p (ended_lines t) (front ∷ ended_lines t) ≡ answer p (ended_lines t) (all_lines t)
 answer-left p t front ok some (inl is) = rw (all-left t some, is)
 answer-left p t front ok some (inr long) = rw (all-left t some) (answer-long p (ended_lines t) front _ ok long.0 long.1)
 
 -- nothing but the last frame is left
-pub ending-more : (p : Settings) (t : List ℕ) → answer p (ended_lines t) (all_lines t) ≡ More → (ending p t Open ≡ last_frame (entries p (all_lines t))) × (phase_after p t Open ≡ Done)
+pub ending-more : (p : Settings) (t : List ℕ) → answer p (ended_lines t) (all_lines t) ≡ More
+    → (ending p t Open ≡ last_frame (entries p (all_lines t))) × (phase_after p t Open ≡ Done)
 unfolding ending phase_after
 ending-more p t is = (rw is, rw is)
 
-pub ending-other : (p : Settings) (t : List ℕ) (a : Feed) → answer p (ended_lines t) (all_lines t) ≡ a → is_more a ≡ false → (ending p t Open ≡ a) × (phase_after p t Open ≡ Last)
+pub ending-other : (p : Settings) (t : List ℕ) (a : Feed) → answer p (ended_lines t) (all_lines t) ≡ a → is_more a ≡ false
+    → (ending p t Open ≡ a) × (phase_after p t Open ≡ Last)
 unfolding ending phase_after
 ending-other p t a is other = (rw (is, other), rw (is, other))
 
@@ -87,7 +91,8 @@ pub answer-more : (p : Settings) (before after : List (List ℕ)) → answer p b
 unfolding answer
 answer-more p before after is = by_refusal (first_refusal p after) refl is
   where
-    by_refusal : (r : Option Refusal) → first_refusal p after ≡ r → told_or r (closed (entries p before) (entries p after)) ≡ More → first_refusal p after ≡ None
+    by_refusal : (r : Option Refusal) → first_refusal p after ≡ r → told_or r (closed (entries p before) (entries p after)) ≡ More
+        → first_refusal p after ≡ None
     by_refusal None e is = e
     by_refusal (Some r) e is = absurd (told-more r is)
 
@@ -97,17 +102,20 @@ done_open is = cc
 pub last_open : Last ≡ Open → ⊥
 last_open is = cc
 
-pub whole-done : (b : Book) (front : List ℕ) (n m : ℕ) (t : List ℕ) → BookRepresents b (all_lines t) → RepresentsWhole record { book = b; front = front; front_len = n; bytes = m; phase = Done } t
+pub whole-done : (b : Book) (front : List ℕ) (n m : ℕ) (t : List ℕ) → BookRepresents b (all_lines t)
+    → RepresentsWhole record { book = b; front = front; front_len = n; bytes = m; phase = Done } t
 whole-done b front n m t r = record { before = λ is. absurd (done_open is); after = λ _. r }
 
-pub whole-last : (b : Book) (front : List ℕ) (n m : ℕ) (t : List ℕ) → BookRepresents b (all_lines t) → RepresentsWhole record { book = b; front = front; front_len = n; bytes = m; phase = Last } t
+pub whole-last : (b : Book) (front : List ℕ) (n m : ℕ) (t : List ℕ) → BookRepresents b (all_lines t)
+    → RepresentsWhole record { book = b; front = front; front_len = n; bytes = m; phase = Last } t
 whole-last b front n m t r = record { before = λ is. absurd (last_open is); after = λ _. r }
 
 pub whole-book : (s : LinesState) (t : List ℕ) (q : Phase) → s.phase ≡ q → (q ≡ Open → ⊥) → RepresentsWhole s t → BookRepresents s.book (all_lines t)
 whole-book s t q is other w = w.after (λ still. other (sym is ∙ still))
 
 -- a line that can't be taken is told again and again
-refusal-all : (s : LinesState) (t : List ℕ) (q : Phase) (r : Refusal) → s.phase ≡ q → s.book.refusal ≡ Some r → RepresentsWhole s t → first_refusal s.book.settings (all_lines t) ≡ Some r
+refusal-all : (s : LinesState) (t : List ℕ) (q : Phase) (r : Refusal) → s.phase ≡ q → s.book.refusal ≡ Some r → RepresentsWhole s t
+    → first_refusal s.book.settings (all_lines t) ≡ Some r
 refusal-all s t Open r is stop w = all-refusal s.book.settings t r (sym (w.before is).lines.refusal ∙ stop)
 refusal-all s t Last r is stop w = sym (whole-book s t Last is last_open w).refusal ∙ stop
 refusal-all s t Done r is stop w = sym (whole-book s t Done is done_open w).refusal ∙ stop
@@ -126,17 +134,21 @@ ending-refused p t Open r is = rw (answer-refused p (ended_lines t) (all_lines t
 ending-refused p t Last r is = rw is
 ending-refused p t Done r is = rw is
 
-pub ending-told : (s : LinesState) (t : List ℕ) (r : Refusal) → s.book.refusal ≡ Some r → RepresentsWhole s t → told r ≡ ending s.book.settings t s.phase
+pub ending-told : (s : LinesState) (t : List ℕ) (r : Refusal) → s.book.refusal ≡ Some r → RepresentsWhole s t
+    → told r ≡ ending s.book.settings t s.phase
 ending-told s t r stop w = sym (ending-refused s.book.settings t s.phase r (refusal-all s t s.phase r refl stop w))
 
-pub no_refusal : (s : LinesState) (t : List ℕ) (r : Refusal) → s.book.refusal ≡ Some r → RepresentsWhole s t → first_refusal s.book.settings (all_lines t) ≡ None → ⊥
+pub no_refusal : (s : LinesState) (t : List ℕ) (r : Refusal) → s.book.refusal ≡ Some r → RepresentsWhole s t
+    → first_refusal s.book.settings (all_lines t) ≡ None → ⊥
 no_refusal s t r stop w ok = let a = refusal-all s t s.phase r refl stop w in cc
 
-pub ending-last : (p : Settings) (t : List ℕ) (q : Phase) → q ≡ Last → first_refusal p (all_lines t) ≡ None → (ending p t q ≡ last_frame (entries p (all_lines t))) × (phase_after p t q ≡ Done)
+pub ending-last : (p : Settings) (t : List ℕ) (q : Phase) → q ≡ Last → first_refusal p (all_lines t) ≡ None
+    → (ending p t q ≡ last_frame (entries p (all_lines t))) × (phase_after p t q ≡ Done)
 unfolding ending phase_after
 ending-last p t q is ok = (rw (is, ok), rw is)
 
-pub ending-done : (p : Settings) (t : List ℕ) (q : Phase) → q ≡ Done → first_refusal p (all_lines t) ≡ None → (ending p t q ≡ More) × (phase_after p t q ≡ Done)
+pub ending-done : (p : Settings) (t : List ℕ) (q : Phase) → q ≡ Done → first_refusal p (all_lines t) ≡ None
+    → (ending p t q ≡ More) × (phase_after p t q ≡ Done)
 unfolding ending phase_after
 ending-done p t q is ok = (rw (is, ok), rw is)
 
@@ -145,7 +157,8 @@ pub record Judges (s : LinesState) (b : Book) (a : Feed) (t : List ℕ) : Type 0
   pub book : BookRepresents b (all_lines t)
   pub answer_is : a ≡ answer s.book.settings (ended_lines t) (all_lines t)
 
-pub judges : (s : LinesState) (b : Book) (a : Feed) (line : List ℕ) (t : List ℕ) → Represents s t → s.book.refusal ≡ None → (s.front_len ≡ 0 → ⊥) → line ≡ s.front → b.settings ≡ s.book.settings
+pub judges : (s : LinesState) (b : Book) (a : Feed) (line : List ℕ) (t : List ℕ) → Represents s t → s.book.refusal ≡ None → (s.front_len ≡ 0 → ⊥)
+    → line ≡ s.front → b.settings ≡ s.book.settings
     → BookRepresents b (line ∷ ended_lines t) → a ≡ answer s.book.settings (ended_lines t) (line ∷ ended_lines t) → Judges s b a t
 judges s b a line t was none some is same r e =
     let k = was.front none in

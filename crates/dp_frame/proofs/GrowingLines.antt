@@ -14,29 +14,35 @@ use Rattle.dp_frame.specs.Record.{refusal_of, first_refusal, good_lines, entry_o
 use Rattle.dp_frame.specs.Books.{Follows}
 use Rattle.dp_frame.proofs.JudgedLines.{judge-good, judge-blank, judge-filled}
 
-pub refusal-more : (p : Settings) (lines : List (List ℕ)) (line : List ℕ) (j : Judged) → first_refusal p lines ≡ None → judge p (last_time lines) line ≡ j
+pub refusal-more : (p : Settings) (lines : List (List ℕ)) (line : List ℕ) (j : Judged) → first_refusal p lines ≡ None
+    → judge p (last_time lines) line ≡ j
     → first_refusal p (line ∷ lines) ≡ refusal_of (length lines + 1) j
 unfolding first_refusal
 refusal-more p lines line j ok is = rw (ok, is)
 
 -- the first line that can't be taken stays the first
-pub refusal-stays : (p : Settings) (lines : List (List ℕ)) (line : List ℕ) (r : Refusal) → first_refusal p lines ≡ Some r → first_refusal p (line ∷ lines) ≡ Some r
+pub refusal-stays : (p : Settings) (lines : List (List ℕ)) (line : List ℕ) (r : Refusal) → first_refusal p lines ≡ Some r
+    → first_refusal p (line ∷ lines) ≡ Some r
 unfolding first_refusal
 refusal-stays p lines line r is = rw is
 
-good-stays : (p : Settings) (lines : List (List ℕ)) (line : List ℕ) (r : Refusal) → first_refusal p (line ∷ lines) ≡ Some r → good_lines p (line ∷ lines) ≡ good_lines p lines
+good-stays : (p : Settings) (lines : List (List ℕ)) (line : List ℕ) (r : Refusal) → first_refusal p (line ∷ lines) ≡ Some r
+    → good_lines p (line ∷ lines) ≡ good_lines p lines
 unfolding good_lines
 good-stays p lines line r is = rw is
 
-good-more : (p : Settings) (lines : List (List ℕ)) (line : List ℕ) → first_refusal p (line ∷ lines) ≡ None → good_lines p (line ∷ lines) ≡ line ∷ good_lines p lines
+good-more : (p : Settings) (lines : List (List ℕ)) (line : List ℕ) → first_refusal p (line ∷ lines) ≡ None
+    → good_lines p (line ∷ lines) ≡ line ∷ good_lines p lines
 unfolding good_lines
 good-more p lines line is = rw is
 
-pub entries-refused : (p : Settings) (lines : List (List ℕ)) (line : List ℕ) (r : Refusal) → first_refusal p (line ∷ lines) ≡ Some r → entries p (line ∷ lines) ≡ entries p lines
+pub entries-refused : (p : Settings) (lines : List (List ℕ)) (line : List ℕ) (r : Refusal) → first_refusal p (line ∷ lines) ≡ Some r
+    → entries p (line ∷ lines) ≡ entries p lines
 unfolding entries
 entries-refused p lines line r is = rw (good-stays p lines line r is)
 
-pub entries-good : (p : Settings) (lines : List (List ℕ)) (line : List ℕ) (e : Entry) → first_refusal p lines ≡ None → judge p (last_time lines) line ≡ Good e
+pub entries-good : (p : Settings) (lines : List (List ℕ)) (line : List ℕ) (e : Entry) → first_refusal p lines ≡ None
+    → judge p (last_time lines) line ≡ Good e
     → entries p (line ∷ lines) ≡ e ∷ entries p lines
 unfolding entries
 entries-good p lines line e ok is =
@@ -77,7 +83,8 @@ pub refusal-fewer : (p : Settings) (lines : List (List ℕ)) (line : List ℕ) �
 unfolding first_refusal
 refusal-fewer p lines line is = by_refusal (first_refusal p lines) refl is
   where
-    by_refusal : (r : Option Refusal) → first_refusal p lines ≡ r → option_or r (refusal_of (length lines + 1) (judge p (last_time lines) line)) ≡ None
+    by_refusal : (r : Option Refusal) → first_refusal p lines ≡ r
+        → option_or r (refusal_of (length lines + 1) (judge p (last_time lines) line)) ≡ None
         → (first_refusal p lines ≡ None) × (refusal_of (length lines + 1) (judge p (last_time lines) line) ≡ None)
     by_refusal None e is = (e, is)
     by_refusal (Some r) e is = cc
@@ -86,7 +93,8 @@ nothing_yet : (p : Settings) → IsTimed p.cycle_ms (last_time []) (entries p []
 unfolding IsTimed last_time entries good_lines
 nothing_yet p = tt
 
-timed-by : (p : Settings) (lines : List (List ℕ)) (line : List ℕ) (j : Judged) → first_refusal p lines ≡ None → judge p (last_time lines) line ≡ j → refusal_of (length lines + 1) j ≡ None
+timed-by : (p : Settings) (lines : List (List ℕ)) (line : List ℕ) (j : Judged) → first_refusal p lines ≡ None → judge p (last_time lines) line ≡ j
+    → refusal_of (length lines + 1) j ≡ None
     → IsTimed p.cycle_ms (last_time lines) (entries p lines) → IsTimed p.cycle_ms (last_time (line ∷ lines)) (entries p (line ∷ lines))
 unfolding IsTimed
 timed-by p lines line Blank ok is none before =
@@ -121,12 +129,14 @@ unfolding IsTimed last_cycle IsBefore
 before-last step t n [] some lt timed = tt
 before-last step t n (e ∷ es) some lt timed = (lt, timed-before step e.time n es some (omega (arith, lt, timed.1)) timed.2)
 
-not_before_last : (step t : ℕ) (es : List Entry) (e : Entry) → 0 < step → t ≤ e.time → e.cycle ≡ e.time / step → IsTimed step t es → last_cycle es ≤ e.cycle
+not_before_last : (step t : ℕ) (es : List Entry) (e : Entry) → 0 < step → t ≤ e.time → e.cycle ≡ e.time / step → IsTimed step t es
+    → last_cycle es ≤ e.cycle
 unfolding IsTimed last_cycle
 not_before_last step t [] e some le is timed = omega arith
 not_before_last step t (d ∷ es) e some le is timed = omega (arith, div_mono step d.time e.time some (omega (arith, timed.0, le)), timed.1, is)
 
-pub follows-good : (p : Settings) (lines : List (List ℕ)) (line : List ℕ) (e : Entry) → 0 < p.cycle_ms → first_refusal p lines ≡ None → judge p (last_time lines) line ≡ Good e
+pub follows-good : (p : Settings) (lines : List (List ℕ)) (line : List ℕ) (e : Entry) → 0 < p.cycle_ms → first_refusal p lines ≡ None
+    → judge p (last_time lines) line ≡ Good e
     → Follows (entries p lines) e
 follows-good p lines line e some ok is =
     let says = judge-good p (last_time lines) line e is in

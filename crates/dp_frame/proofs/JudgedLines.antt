@@ -23,12 +23,14 @@ pub record Says (p : Settings) (last : ℕ) (line : List ℕ) (e : Entry) : Type
   pub cycle : e.cycle ≡ e.time / p.cycle_ms
   pub filled : (length line == 0) ≡ false
 
-judge_rest-good : (p : Settings) (t : ℕ) (rest : List ℕ) (w : Option Wire) (e : Entry) → judge_rest p t rest w ≡ Good e → (e.time ≡ t) × (e.cycle ≡ t / p.cycle_ms)
+judge_rest-good : (p : Settings) (t : ℕ) (rest : List ℕ) (w : Option Wire) (e : Entry) → judge_rest p t rest w ≡ Good e
+    → (e.time ≡ t) × (e.cycle ≡ t / p.cycle_ms)
 unfolding judge_rest
 judge_rest-good p t rest None e is = cc
 judge_rest-good p t rest (Some w) e is = by_test (nat_le (2 ^ 20) (t / p.cycle_ms)) is
   where
-    by_test : (v : Bool) → (if v then TooMany (t / p.cycle_ms) else Good record { time = t; cycle = t / p.cycle_ms; wire = w; sense = sense_of p w rest }) ≡ Good e
+    by_test : (v : Bool)
+        → (if v then TooMany (t / p.cycle_ms) else Good record { time = t; cycle = t / p.cycle_ms; wire = w; sense = sense_of p w rest }) ≡ Good e
         → (e.time ≡ t) × (e.cycle ≡ t / p.cycle_ms)
     by_test true is = cc
     by_test false is = (cc, cc)
@@ -90,7 +92,8 @@ unfolding judge_rest
 judge_rest-filled p t rest None is = cc
 judge_rest-filled p t rest (Some w) is = by_test (nat_le (2 ^ 20) (t / p.cycle_ms)) is
   where
-    by_test : (v : Bool) → (if v then TooMany (t / p.cycle_ms) else Good record { time = t; cycle = t / p.cycle_ms; wire = w; sense = sense_of p w rest }) ≡ Blank → ⊥
+    by_test : (v : Bool)
+        → (if v then TooMany (t / p.cycle_ms) else Good record { time = t; cycle = t / p.cycle_ms; wire = w; sense = sense_of p w rest }) ≡ Blank → ⊥
     by_test true is = cc
     by_test false is = cc
 
@@ -103,7 +106,8 @@ pub judge-filled : (p : Settings) (last : ℕ) (line : List ℕ) → judge p las
 unfolding judge judge_time judge_wire
 judge-filled p last line is = by_test (length line == 0) refl is
   where
-    by_test : (v : Bool) → (length line == 0) ≡ v → (if v then Blank else (if nat_lt 192 (length line) then Faulty LongLine else judge_time p last line)) ≡ Blank → (length line == 0) ≡ true
+    by_test : (v : Bool) → (length line == 0) ≡ v
+        → (if v then Blank else (if nat_lt 192 (length line) then Faulty LongLine else judge_time p last line)) ≡ Blank → (length line == 0) ≡ true
     by_test true empty is = empty
     by_test false empty is =
         absurd (filled-not_blank LongLine (nat_lt 192 (length line)) _ (filled-not_blank NoTime (time_len line == 0) _ (filled-not_blank BadTime _ _

@@ -16,7 +16,8 @@ use Rattle.dp_frame.proofs.GrowingLines.{refusal-fewer, refusal-stays, entries-r
 unfoldable pub Grows : List Entry → List Entry → Type 0
 Grows es fs = (fs ≡ es) ⊎ ((e : Entry) × (fs ≡ e ∷ es) × Follows es e)
 
-grows-by : (p : Settings) (lines : List (List ℕ)) (line : List ℕ) (j : Judged) → 0 < p.cycle_ms → first_refusal p lines ≡ None → judge p (last_time lines) line ≡ j → refusal_of (length lines + 1) j ≡ None
+grows-by : (p : Settings) (lines : List (List ℕ)) (line : List ℕ) (j : Judged) → 0 < p.cycle_ms → first_refusal p lines ≡ None
+    → judge p (last_time lines) line ≡ j → refusal_of (length lines + 1) j ≡ None
     → Grows (entries p lines) (entries p (line ∷ lines))
 unfolding Grows
 grows-by p lines line Blank some ok is none = inl (entries-blank p lines line ok is)

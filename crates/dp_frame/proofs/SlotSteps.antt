@@ -37,7 +37,8 @@ module _ {T : Type 0} where
   slot-miss p f e es miss =
       same-slot _ _ _ _ _ _ (rw miss) (count-no _ e es (rw miss)) (count-no _ e es (rw miss))
 
-  slot-hit-by : (b : Brought T) (p : Entry → Bool) (f : Entry → Brought T) (e : Entry) (es : List Entry) → f e ≡ b → p e ≡ true → slot_of p f (e ∷ es) ≡ counted_slot b (slot_of p f es)
+  slot-hit-by : (b : Brought T) (p : Entry → Bool) (f : Entry → Brought T) (e : Entry) (es : List Entry) → f e ≡ b → p e ≡ true
+      → slot_of p f (e ∷ es) ≡ counted_slot b (slot_of p f es)
   unfolding slot_of last_reading
   slot-hit-by (Reading x) p f e es is hit =
       same-slot _ _ _ _ _ _ (rw (hit, is)) (count-no _ e es (rw (hit, is))) (count-no _ e es (rw (hit, is)))
@@ -46,7 +47,8 @@ module _ {T : Type 0} where
   slot-hit-by Skipped p f e es is hit =
       same-slot _ _ _ _ _ _ (rw (hit, is)) (count-no _ e es (rw (hit, is))) (count-yes _ e es (rw (hit, is)))
 
-  pub slot-hit : (p : Entry → Bool) (f : Entry → Brought T) (e : Entry) (es : List Entry) → p e ≡ true → slot_of p f (e ∷ es) ≡ counted_slot (f e) (slot_of p f es)
+  pub slot-hit : (p : Entry → Bool) (f : Entry → Brought T) (e : Entry) (es : List Entry) → p e ≡ true
+      → slot_of p f (e ∷ es) ≡ counted_slot (f e) (slot_of p f es)
   slot-hit p f e es hit = slot-hit-by (f e) p f e es refl hit
 
   pub map-same : (f g : ℕ → Slot T) (ks : List ℕ) → ((k : ℕ) → f k ≡ g k) → map f ks ≡ map g ks

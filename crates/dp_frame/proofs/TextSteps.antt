@@ -33,8 +33,10 @@ unfolding onto_last
 split-snoc [] b other = rw other
 split-snoc (a ∷ t) b other = by_byte (is_newline a) a t b other refl (split-snoc t b other) (some_piece t)
   where
-    by_byte : (v : Bool) (a : ℕ) (t : List ℕ) (b : ℕ) → is_newline b ≡ false → is_newline a ≡ v → slice_split is_newline (t ++ b ∷ []) ≡ onto_last b (slice_split is_newline t)
-        → ((x : List ℕ) × (more : List (List ℕ)) × (slice_split is_newline t ≡ x ∷ more)) → slice_split is_newline ((a ∷ t) ++ b ∷ []) ≡ onto_last b (slice_split is_newline (a ∷ t))
+    by_byte : (v : Bool) (a : ℕ) (t : List ℕ) (b : ℕ) → is_newline b ≡ false → is_newline a ≡ v
+        → slice_split is_newline (t ++ b ∷ []) ≡ onto_last b (slice_split is_newline t)
+        → ((x : List ℕ) × (more : List (List ℕ)) × (slice_split is_newline t ≡ x ∷ more))
+        → slice_split is_newline ((a ∷ t) ++ b ∷ []) ≡ onto_last b (slice_split is_newline (a ∷ t))
     by_byte true a t b other e ih s = rw (e, ih, s.2)
     by_byte false a t b other e ih s = rw (e, ih, s.2) (onto_first-last a b s.1 s.0)
 
@@ -43,7 +45,8 @@ split-newline [] = refl
 split-newline (a ∷ t) = by_byte (is_newline a) a t refl (split-newline t) (some_piece t)
   where
     by_byte : (v : Bool) (a : ℕ) (t : List ℕ) → is_newline a ≡ v → slice_split is_newline (t ++ 10 ∷ []) ≡ slice_split is_newline t ++ [] ∷ []
-        → ((x : List ℕ) × (more : List (List ℕ)) × (slice_split is_newline t ≡ x ∷ more)) → slice_split is_newline ((a ∷ t) ++ 10 ∷ []) ≡ slice_split is_newline (a ∷ t) ++ [] ∷ []
+        → ((x : List ℕ) × (more : List (List ℕ)) × (slice_split is_newline t ≡ x ∷ more))
+        → slice_split is_newline ((a ∷ t) ++ 10 ∷ []) ≡ slice_split is_newline (a ∷ t) ++ [] ∷ []
     by_byte true a t e ih s = rw (e, ih, s.2)
     by_byte false a t e ih s = rw (e, ih, s.2)
 
@@ -59,7 +62,8 @@ last-onto_last b x [] = refl
 last-onto_last b x (y ∷ []) = refl
 last-onto_last b x (y ∷ z ∷ more) = last-onto_last b y (z ∷ more)
 
-pieces-more : (x : List ℕ) (more : List (List ℕ)) → lines_of_pieces true ((x ∷ more) ++ [] ∷ []) ≡ lines_of_pieces true (x ∷ more) ++ stripped (last_piece (x ∷ more)) ∷ []
+pieces-more : (x : List ℕ) (more : List (List ℕ))
+    → lines_of_pieces true ((x ∷ more) ++ [] ∷ []) ≡ lines_of_pieces true (x ∷ more) ++ stripped (last_piece (x ∷ more)) ∷ []
 pieces-more x [] = refl
 pieces-more x (y ∷ more) = ap (λ l. stripped x ∷ l) (pieces-more y more)
 
@@ -93,7 +97,8 @@ pub unfinished-none : unfinished_line [] ≡ []
 unfolding unfinished_line
 unfinished-none = refl
 
-all-pieces : (x : List ℕ) (more : List (List ℕ)) → lines_of_pieces false (x ∷ more) ≡ lines_of_pieces true (x ∷ more) ++ (if length (last_piece (x ∷ more)) == 0 then [] else last_piece (x ∷ more) ∷ [])
+all-pieces : (x : List ℕ) (more : List (List ℕ))
+    → lines_of_pieces false (x ∷ more) ≡ lines_of_pieces true (x ∷ more) ++ (if length (last_piece (x ∷ more)) == 0 then [] else last_piece (x ∷ more) ∷ [])
 all-pieces x [] = refl
 all-pieces x (y ∷ more) = ap (λ l. stripped x ∷ l) (all-pieces y more)
 

@@ -1,4 +1,4 @@
-ghost use Rattle.std.specs.Prelude.{◌≡◌, ◌+◌, ◌-◌, ◌^◌, ◌<◌, ◌≤◌, ℕ, List, [], ◌∷◌, Some, None, length, false};
+ghost use Rattle.std.specs.Prelude.{◌≡◌, ◌+◌, ◌-◌, ◌^◌, ◌<◌, ℕ, List, [], ◌∷◌, Some, None, length, false};
 ghost use Rattle.dp_frame.specs.Ranges.{IsEntryWithin, IsFeedInRange, IsFrameInRange};
 ghost use Rattle.dp_frame.specs.Wires.{IsWire};
 ghost use Rattle.dp_frame.specs.Frames.{frame_of, IsFrameBounded};

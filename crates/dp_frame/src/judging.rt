@@ -1,7 +1,5 @@
 //! The judgement on one line.
-ghost use Rattle.std.specs.Prelude.{◌≡◌, ◌<◌, ◌≤◌, ◌+◌, ◌*◌, ◌^◌, length, IfSome, Option, Some, None, not};
-ghost use Rattle.std.specs.List.{prefix_len};
-ghost use Rattle.dp_text.specs.Parts.{is_space};
+ghost use Rattle.std.specs.Prelude.{◌≡◌, ◌≤◌, length, IfSome};
 ghost use Rattle.dp_frame.specs.Books.{IsReadable};
 ghost use Rattle.dp_frame.specs.Ranges.{IsJudgedWithin};
 ghost use Rattle.dp_frame.specs.Line.{judge, judge_rest, judge_time, judge_wire, name_len, number_of, time_len};

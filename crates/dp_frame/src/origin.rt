@@ -2,7 +2,7 @@
 ghost use Rattle.std.specs.Prelude.{◌≡◌, ◌^◌, ◌≤◌, IfSome, unsigned_abs};
 ghost use Rattle.dp_plant.specs.Ranges.{IsVectorWithin};
 ghost use Rattle.dp_frame.specs.LocalFrame as LocalFrame;
-ghost use Rattle.dp_frame.specs.LocalFrame.{IsCosineAt, IsOrigin, cosine_at, local_of, origin_of};
+ghost use Rattle.dp_frame.specs.LocalFrame.{IsCosineAt, IsOrigin, local_of, origin_of};
 
 use dp_fixed::{Q, difference, floor_div, narrow, scaled, wrap};
 use dp_plant::{Place, Plant};
