@@ -129,7 +129,8 @@ frames-byte p t b some = by_byte (is_newline b) refl
     by_byte false other = rw (ended-other t b other, given-still p (ended_lines t)) (sym (append-nil _))
     by_byte true is = rw (newline-is b is, ended-newline t) (frames-line p (ended_lines t) (stripped (unfinished_line t)) some)
 
-nothing_over : (p : Settings) → frames_so_far p (ended_lines []) ≡ []
+-- before the first byte
+pub nothing_over : (p : Settings) → frames_so_far p (ended_lines []) ≡ []
 unfolding frames_so_far frames_upto entries good_lines last_cycle
 nothing_over p = rw ended-none
 

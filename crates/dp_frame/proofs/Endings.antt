@@ -51,7 +51,7 @@ more-is (Closed frame empty) is = cc
 more-is (Fault line kind) is = cc
 more-is (TooMany line cycle) is = cc
 
-given-none : (a : Feed) → is_closed a ≡ false → given a ≡ []
+pub given-none : (a : Feed) → is_closed a ≡ false → given a ≡ []
 given-none More is = refl
 given-none (Closed frame empty) is = cc
 given-none (Fault line kind) is = refl

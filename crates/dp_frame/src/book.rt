@@ -17,7 +17,7 @@ use dp_plant::Frame;
 
 /// What is kept of the lines so far.
 #[derive(Drop)]
-pub(crate) struct Book {
+pub struct Book {
     pub settings: Settings,
     /// The first line that can't be taken.
     pub refusal: Option<Refusal>,

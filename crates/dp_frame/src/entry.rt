@@ -6,7 +6,7 @@ use dp_plant::{Gust, Place, Wire};
 
 /// What a line brings for its wire: a reading, damage, or nothing, where it is skipped.
 #[derive(Clone, Copy)]
-pub(crate) enum Sense {
+pub enum Sense {
     At(Place),
     Heading(u32),
     Wind(Gust),
@@ -17,7 +17,7 @@ pub(crate) enum Sense {
 
 /// What a line brings for a wire with readings of one type.
 #[derive(Clone, Copy)]
-pub(crate) enum Brought<T> {
+pub enum Brought<T> {
     Reading(T),
     Damaged,
     Skipped,
@@ -25,7 +25,7 @@ pub(crate) enum Brought<T> {
 
 /// What a good line says that isn't empty.
 #[derive(Clone, Copy)]
-pub(crate) struct Entry {
+pub struct Entry {
     /// In milliseconds.
     pub time: u64,
     pub cycle: u64,
@@ -35,7 +35,7 @@ pub(crate) struct Entry {
 
 /// The judgement on one line.
 #[derive(Clone, Copy)]
-pub(crate) enum Judged {
+pub enum Judged {
     Blank,
     Good(Entry),
     Faulty(LineFault),

@@ -15,9 +15,9 @@ pub enum LineFault {
     UnknownWire,
 }
 
-/// The first line that can't be taken, counted from 1.
-#[derive(Clone, Copy, Debug, PartialEq, Eq)]
-pub(crate) enum Refusal {
+/// The first line that can't be taken, counted from 1, as contracts have it; [`crate::Feed`] tells of it.
+#[derive(Clone, Copy)]
+pub enum Refusal {
     /// The line is faulty.
     Faulty { line: u64, kind: LineFault },
     /// The line is sound, and of a cycle of 2^20 or more.

@@ -14,10 +14,13 @@ pub enum Feed {
     TooMany { line: u64, cycle: u64 },
 }
 
-/// How far a record was read: not to its end; its last line was judged; all was answered.
+/// How far a record was read; only contracts speak of it.
 #[derive(Clone, Copy)]
-pub(crate) enum Phase {
+pub enum Phase {
+    /// `finish` wasn't called.
     Open,
+    /// The last line was judged and closed a frame; the last frame is left.
     Last,
+    /// Nothing is left.
     Done,
 }

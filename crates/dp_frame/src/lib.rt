@@ -55,8 +55,8 @@ mod sensing;
 mod settings;
 mod wires;
 
-pub use fault::LineFault;
-pub use feed::Feed;
+pub use fault::{LineFault, Refusal};
+pub use feed::{Feed, Phase};
 pub use frames::empty_frame;
 pub use lines::Lines;
 pub use origin::Origin;

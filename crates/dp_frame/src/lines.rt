@@ -7,10 +7,9 @@ ghost use Rattle.dp_frame.specs.LocalFrame.{IsOrigin, origin_of};
 ghost use Rattle.dp_frame.specs.Represents.{IsOpen, Represents, RepresentsWhole, settings_of};
 
 use crate::book::Book;
-use crate::feed::Phase;
 use crate::frames::empty_frame;
 use crate::settings::Settings;
-use crate::{Feed, Origin};
+use crate::{Feed, Origin, Phase};
 use arrayvec::ArrayVec;
 use dp_plant::Plant;
 use dp_trig::Trig;
@@ -80,6 +79,7 @@ impl Lines {
         ensures represents { Represents result [] }
         ensures settings { result.book.settings ≡ settings_of plant.now }
         ensures open { IsOpen result }
+        ensures first { result.book.kept.cycle ≡ 0 }
     {
         Lines {
             book: Book {
