@@ -1,26 +1,35 @@
--- The text of the cycles.
-use Rattle.std.specs.Prelude.{ℕ, zero, suc, List, [], ◌++◌, ℤ, Option, Some, None, codes}
-use Rattle.std.specs.Fmt.{decimal, signed_decimal}
-use Rattle.dp_plant.specs.Vectors.{entry}
-use Rattle.dp_app.specs.declared.reading.Reading.{Reading}
-use Rattle.dp_app.specs.Reference.{demand_at}
+-- What is told of each cycle.
+use Rattle.std.specs.Prelude.{ℕ, List, [], ◌∷◌, map}
+use Rattle.std.specs.List.{flat_map, range_with_len}
+use Rattle.dp_plant.specs.declared.frames.Frame.{Frame}
+use Rattle.dp_plant.specs.declared.plant.Plant.{Plant}
+use Rattle.dp_core.specs.History.{history}
+use Rattle.dp_core.specs.Moment.{Moment}
+use Rattle.dp_core.specs.Mode.{mode}
+use Rattle.dp_core.specs.Voting.{ballot, taken}
+use Rattle.dp_core.specs.declared.event.Event.{Event}
+use Rattle.dp_report.specs.Block.{BlockValue, block_text}
+use Rattle.dp_script.specs.declared.event.Event.{Event as Scripted}
+use Rattle.dp_app.specs.Acting.{cycled, voters}
 
-abbrev pub demand_text : ℕ → ℤ → ℤ → List ℕ
-demand_text n surge sway = codes "cycle " ++ (decimal n ++ (codes " demand " ++ (signed_decimal surge ++ (codes " " ++ (signed_decimal sway ++ codes "\n")))))
+-- at the end of a cycle: how each computer takes part, and the ballot of each of n voters and the orders that it took
+unfoldable pub block_at : ℕ → ℕ → List Moment → BlockValue
+block_at n cycle h = record {
+  cycle = cycle;
+  modes = mode 0 h ∷ mode 1 h ∷ mode 2 h ∷ [];
+  ballots = map (λ k. ballot k h) (range_with_len 0 n);
+  held = map (λ k. taken k 0 h ∷ taken k 1 h ∷ taken k 2 h ∷ []) (range_with_len 0 n);
+}
 
-abbrev pub halted_text : ℕ → List ℕ
-halted_text n = codes "cycle " ++ (decimal n ++ codes " halted\n")
+-- the block of a cycle that ends with these events
+abbrev pub block_of : Plant → ℕ → List Event → BlockValue
+block_of p cycle es = block_at (voters p) cycle (history p es)
 
--- the line of a cycle
-unfoldable pub cycle_text : ℕ → Option (List ℤ) → List ℕ
-cycle_text n (Some demand) = demand_text n (entry demand 0) (entry demand 1)
-cycle_text n None = halted_text n
+-- the blocks of one cycle after another, after these events
+unfoldable pub blocks : Plant → List Scripted → List Frame → List Event → List BlockValue
+blocks p script [] es = []
+blocks p script (f ∷ fs) es = block_of p f.cycle (cycled p script f es) ∷ blocks p script fs (cycled p script f es)
 
--- the block of cycle n of a record
-unfoldable pub block : List Reading → ℕ → List ℕ
-block readings n = cycle_text n (demand_at readings n)
-
--- the blocks of the first n cycles
-unfoldable pub blocks : List Reading → ℕ → List ℕ
-blocks readings zero = []
-blocks readings (suc n) = blocks readings n ++ block readings n
+-- their text
+abbrev pub text_of : List BlockValue → List ℕ
+text_of bs = flat_map block_text bs

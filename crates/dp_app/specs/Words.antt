@@ -2,9 +2,15 @@
 use Rattle.std.specs.Prelude.{ℕ, List, [], ◌∷◌, Option, Some, None, if◌then◌else◌, codes}
 use Rattle.std.specs.Str.{bytes_eq}
 
--- the name of the record in `replay RECORD`; none where the words are no command
-abbrev pub record_named : List (List ℕ) → Option (List ℕ)
-record_named [] = None
-record_named (verb ∷ []) = None
-record_named (verb ∷ name ∷ []) = if bytes_eq verb (codes "replay") then Some name else None
-record_named (verb ∷ name ∷ other ∷ words) = None
+-- the files that a replay names
+pub record Names : Type 0 where
+  pub record_name : List ℕ
+  pub script_name : List ℕ
+
+-- the names in `replay RECORD SCRIPT`; none where the words are no command
+abbrev pub names_in : List (List ℕ) → Option Names
+names_in [] = None
+names_in (verb ∷ []) = None
+names_in (verb ∷ first ∷ []) = None
+names_in (verb ∷ first ∷ second ∷ []) = if bytes_eq verb (codes "replay") then Some (record { record_name = first; script_name = second }) else None
+names_in (verb ∷ first ∷ second ∷ third ∷ words) = None

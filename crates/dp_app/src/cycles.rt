@@ -1,10 +1,11 @@
 //! The readings of a record, cycle by cycle.
-ghost use Rattle.std.specs.Prelude.{◌≡◌, ◌+◌, ◌<◌, ◌≤◌, ℕ, length};
+ghost use Rattle.std.specs.Prelude.{◌≡◌, ◌+◌, ◌<◌, ◌≤◌, ◌^◌, ℕ, length};
 ghost use Rattle.std.specs.List.{All};
-ghost use Rattle.dp_app.specs.Frames.{IsRising, frame, front_count};
-ghost use Rattle.dp_app.specs.Outcome.{cycles_written};
+ghost use Rattle.dp_app.specs.Frames.{IsRising, front_count, readings_in};
+ghost use Rattle.dp_app.specs.Outcome.{cycles_played};
 ghost use Rattle.dp_app.specs.ReadingRange.{IsReadingWithin};
 
+use crate::fault::Fault;
 use crate::reading::{CYCLE_MS, Reading};
 
 /// How many readings at the front are of a cycle.
@@ -24,9 +25,9 @@ fn front_count(readings: &[Reading], cycle: u64) -> usize
 pub fn split_cycle(readings: &[Reading], cycle: u64) -> (&[Reading], &[Reading])
     requires rising { IsRising cycle readings.now }
     requires within { All IsReadingWithin readings.now }
-    ensures cycle { result.0.now ≡ frame cycle readings.now }
+    ensures cycle { result.0.now ≡ readings_in cycle readings.now }
     ensures later { IsRising (cycle + 1) result.1.now }
-    ensures others { (m : ℕ) → cycle < m → frame m result.1.now ≡ frame m readings.now }
+    ensures others { (m : ℕ) → cycle < m → readings_in m result.1.now ≡ readings_in m readings.now }
     ensures cycle_within { All IsReadingWithin result.0.now }
     ensures later_within { All IsReadingWithin result.1.now }
 {
@@ -34,13 +35,14 @@ pub fn split_cycle(readings: &[Reading], cycle: u64) -> (&[Reading], &[Reading])
     (&readings[..count], &readings[count..])
 }
 
-/// How many cycles are written: all of the record, or where it is refused those before that of its last good line.
-pub fn cycles(readings: &[Reading], is_refused: bool) -> u64
+/// How many cycles are played: all of the record, or where it is refused those before that of its last good line.
+pub fn cycles(readings: &[Reading], fault: Option<Fault>) -> u64
     requires { All IsReadingWithin readings.now }
-    ensures { result ≡ cycles_written is_refused readings.now }
+    ensures value { result ≡ cycles_played fault readings.now }
+    ensures bound { result ≤ 2 ^ 20 }
 {
     match readings.last() {
-        Some(last) if is_refused => last.time / CYCLE_MS,
+        Some(last) if fault.is_some() => last.time / CYCLE_MS,
         Some(last) => last.time / CYCLE_MS + 1,
         None => 0,
     }

@@ -1,23 +1,26 @@
-//! `dp replay RECORD` replays a record of position readings on one computer, and prints what the control law demands in each cycle.
+//! `dp replay RECORD SCRIPT` replays a record of position readings on three computers, with the faults that a script says, and prints
+//! the voted forces of each cycle.
 //!
 //! All of it is [`run`], which is proved over whatever holds the files and takes the text; `main` makes the real ones and calls it.
 #![tactic(auto)]
 
-mod blocks;
-mod built_in;
+mod acting;
+mod cycle;
 mod cycles;
-mod fusion;
+mod fault;
+mod frames;
+mod inputs;
 mod judging;
-mod law;
+mod laws;
 mod program;
 mod reading;
 mod replay;
 mod status;
-mod step;
 #[cfg(test)]
 mod tests;
 mod words;
 
+pub use cycle::cycle;
 use dp_shell::{FileShelf, StdSink};
 pub use program::run;
 pub use status::Status;

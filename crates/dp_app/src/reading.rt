@@ -1,6 +1,6 @@
 //! One line of a record: `t posI L NORTH EAST`, for example `1000 pos0 L 1000 -250`.
-ghost use Rattle.std.specs.Prelude.{◌≡◌, ◌≤◌, ◌<◌, ◌^◌, IfSome, unsigned_abs};
-ghost use Rattle.dp_plant.specs.Ranges.{IsMeasuredPlace};
+ghost use Rattle.std.specs.Prelude.{◌≡◌, ◌≤◌, ◌<◌, ◌/◌, ◌^◌, IfSome, unsigned_abs};
+ghost use Rattle.dp_plant.specs.Ranges.{IsVectorWithin};
 ghost use Rattle.dp_app.specs.Reading.{length_of, place_of, reading_of, reference_of, time_of};
 ghost use Rattle.dp_app.specs.ReadingRange.{IsReadingWithin};
 
@@ -33,7 +33,7 @@ pub struct Reading {
 /// Millimetres, at most so many from zero, in nanometres.
 fn length(text: &[u8]) -> Option<i64>
     ensures value { result ≡ length_of text.now }
-    ensures bound { IfSome result (λ x. unsigned_abs x ≤ 2 ^ 44) }
+    ensures bound { IfSome result (λ x. unsigned_abs x ≤ 2 ^ 43) }
 {
     let mm = number(text)?;
     if mm.unsigned_abs() <= FARTHEST_MM {
@@ -46,7 +46,7 @@ fn length(text: &[u8]) -> Option<i64>
 /// A time that isn't before the last, of a cycle that a record may have.
 fn time(text: &[u8], last: u64) -> Option<u64>
     ensures value { result ≡ time_of last text.now }
-    ensures bound { IfSome result (λ t. t < 2 ^ 60) }
+    ensures bound { IfSome result (λ t. t / 1000 < 2 ^ 20) }
 {
     let time = decimal(text, TIME_DIGITS)?;
     if last <= time && time / CYCLE_MS < CYCLES {
@@ -75,7 +75,7 @@ fn reference(wire: &[u8]) -> Option<u8>
 #[tactic(auto, unfolding(crate::specs::Reading::place_of))]
 fn place(text: &[u8]) -> Option<Place>
     ensures value { result ≡ place_of text.now }
-    ensures within { IfSome result IsMeasuredPlace }
+    ensures within { IfSome result (IsVectorWithin (2 ^ 43)) }
 {
     let (form, numbers) = cut(text)?;
     let (first, second) = cut(numbers)?;

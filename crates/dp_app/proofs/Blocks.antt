@@ -1,0 +1,33 @@
+-- A cycle's events and its block, from their parts.
+use Rattle.std.proofs.Common.{◌≡◌, ℕ, List, [], ◌∷◌, Option, ℤ, map, refl, ap, ◌∙◌}
+use Rattle.std.specs.List.{range_with_len}
+use Rattle.dp_plant.specs.declared.frames.Frame.{Frame}
+use Rattle.dp_plant.specs.declared.plant.Plant.{Plant}
+use Rattle.dp_plant.specs.declared.voting.Ballot.{Ballot}
+use Rattle.dp_plant.specs.declared.voting.Mode.{Mode}
+use Rattle.dp_core.specs.declared.event.Event.{Event}
+use Rattle.dp_core.specs.declared.event.Event.TheVariants.{Wire}
+use Rattle.dp_core.specs.Mode.{mode}
+use Rattle.dp_core.specs.Moment.{Moment}
+use Rattle.dp_core.specs.Voting.{ballot, taken}
+use Rattle.dp_report.specs.Block.{BlockValue}
+use Rattle.dp_script.specs.declared.event.Event.{Event as Scripted}
+use Rattle.dp_script.specs.Events.{acts_at}
+use Rattle.dp_app.specs.Acting.{all_acted, cycled, voted, voters}
+use Rattle.dp_app.specs.Blocks.{block_at}
+
+pub cycled_is : (p : Plant) (script : List Scripted) (f : Frame) (es : List Event) → voted (voters p) (all_acted p f.cycle (acts_at f.cycle script) (Wire f ∷ es)) ≡ cycled p script f es
+unfolding cycled
+cycled_is p script f es = refl
+
+pub block_is : (n cycle : ℕ) (h : List Moment) (modes : List Mode) (ballots : List Ballot) (held : List (List (Option ℤ)))
+    → modes ≡ mode 0 h ∷ mode 1 h ∷ mode 2 h ∷ []
+    → ballots ≡ map (λ k. ballot k h) (range_with_len 0 n)
+    → held ≡ map (λ k. taken k 0 h ∷ taken k 1 h ∷ taken k 2 h ∷ []) (range_with_len 0 n)
+    → record { cycle = cycle; modes = modes; ballots = ballots; held = held } ≡ block_at n cycle h
+unfolding block_at
+block_is n cycle h modes ballots held m b o =
+    let of : List Mode → List Ballot → List (List (Option ℤ)) → BlockValue = λ x y z. record { cycle = cycle; modes = x; ballots = y; held = z } in
+    ap (λ (x : List Mode). of x ballots held) m
+    ∙ ap (λ (y : List Ballot). of (mode 0 h ∷ mode 1 h ∷ mode 2 h ∷ []) y held) b
+    ∙ ap (λ (z : List (List (Option ℤ))). of (mode 0 h ∷ mode 1 h ∷ mode 2 h ∷ []) (map (λ k. ballot k h) (range_with_len 0 n)) z) o

@@ -1,0 +1,24 @@
+-- The headline: what is told of each cycle's forces.
+use Rattle.std.specs.Prelude.{◌≡◌, ◌+◌, ℕ, ℤ, List, [], take, Some, Result, Ok, Err, slice_get}
+use Rattle.dp_plant.specs.declared.frames.Frame.{Frame}
+use Rattle.dp_plant.specs.declared.plant.Plant.{Plant}
+use Rattle.dp_plant.specs.declared.voting.Ballot.TheVariants.{Fresh}
+use Rattle.dp_core.specs.Faulty.{AtMostOneFaulty}
+use Rattle.dp_core.specs.History.{history}
+use Rattle.dp_core.specs.Reference.{IsReferenceForce}
+use Rattle.dp_report.specs.Block.{BlockValue}
+use Rattle.dp_app.specs.declared.fault.Fault.{Fault}
+use Rattle.dp_app.specs.Acting.{played}
+use Rattle.dp_app.specs.Blocks.{blocks}
+use Rattle.dp_app.specs.Outcome.{Play}
+
+-- each fresh force in the block of cycle n is that of the reference run, one computer alone over the frames up to n
+abbrev pub FreshForcesAreReference : Plant → List Frame → List BlockValue → Type 0
+FreshForcesAreReference p fs bs = (n k : ℕ) (b : BlockValue) (f : ℤ) → slice_get bs n ≡ Some b → slice_get b.ballots k ≡ Some (Fresh f)
+    → IsReferenceForce p (take (n + 1) fs) k f
+
+-- with at most one faulty computer in any cycle of what is played, each fresh force that is told is the reference run's
+abbrev pub TellsReferenceForces : Result Play Fault → Type 0
+TellsReferenceForces (Ok x) = AtMostOneFaulty (history x.plant (played x.plant x.script x.frames []))
+    → FreshForcesAreReference x.plant x.frames (blocks x.plant x.script x.frames [])
+TellsReferenceForces (Err fault) = Unit {0}

@@ -1,0 +1,106 @@
+//! Why a run is refused, and the line that says so.
+ghost use Rattle.std.specs.Prelude.{◌≡◌, ◌++◌, ◌≤◌, ◌+◌, length, codes};
+ghost use Rattle.std.specs.Fmt.{decimal};
+ghost use Rattle.arrayvec.specs.ArrayVec.{array_vec_len};
+ghost use Rattle.dp_app.specs.FaultLines.{fault_line, fault_status, kind_word, named_line};
+
+use crate::Status;
+use arrayvec::ArrayVec;
+use dp_script::ScriptKind;
+use dp_text::{append, append_decimal};
+
+/// Room for the longest fault line.
+pub const LINE: usize = 96;
+
+/// Why a run is refused.
+#[derive(Clone, Copy, Debug, PartialEq, Eq)]
+pub enum Fault {
+    /// The words are no command.
+    Usage,
+    /// The script can't be read.
+    ReadScript,
+    /// The script is longer than its limit.
+    LongScript,
+    /// The first faulty line of the script.
+    BadScript { line: u64, kind: ScriptKind },
+    /// The record can't be read.
+    ReadRecord,
+    /// The record is longer than its limit.
+    LongRecord,
+    /// The first faulty line of the record.
+    BadRecord { line: u64 },
+    /// Memory was wanted.
+    Memory,
+}
+
+fn kind_word(kind: ScriptKind) -> &'static [u8]
+    ensures word { result.now ≡ kind_word kind }
+    ensures short { length result.now ≤ 6 }
+{
+    match kind {
+        ScriptKind::Verb => b"verb",
+        ScriptKind::Number => b"number",
+        ScriptKind::Range => b"range",
+        ScriptKind::Order => b"order",
+    }
+}
+
+/// A line without a number.
+fn plain_line(text: &[u8]) -> ArrayVec<u8, LINE>
+    requires { length text.now ≤ 32 }
+    ensures { result.items ≡ text.now }
+{
+    let mut line = ArrayVec::new();
+    append(&mut line, text);
+    line
+}
+
+/// A line that names a line of a file.
+fn named_line(file: &[u8], number: u64, kind: &[u8]) -> ArrayVec<u8, LINE>
+    requires file { length file.now ≤ 6 }
+    requires kind { length kind.now ≤ 7 }
+    ensures { result.items ≡ named_line file.now number kind.now }
+{
+    let mut line = ArrayVec::new();
+    append(&mut line, b"fault ");
+    append(&mut line, file);
+    append(&mut line, b" ");
+    append_decimal(&mut line, number);
+    append(&mut line, b" ");
+    append(&mut line, kind);
+    append(&mut line, b"\n");
+    line
+}
+
+impl Fault {
+    /// Its line.
+    #[tactic(auto, unfolding(crate::specs::FaultLines::fault_line))]
+    pub fn line(&self) -> ArrayVec<u8, LINE>
+        ensures { result.items ≡ fault_line self.now }
+    {
+        match *self {
+            Fault::Usage => plain_line(b"fault usage\n"),
+            Fault::ReadScript => plain_line(b"fault read script\n"),
+            Fault::LongScript => plain_line(b"fault long script\n"),
+            Fault::BadScript { line, kind } => named_line(b"script", line, kind_word(kind)),
+            Fault::ReadRecord => plain_line(b"fault read record\n"),
+            Fault::LongRecord => plain_line(b"fault long record\n"),
+            Fault::BadRecord { line } => named_line(b"record", line, b"unbuilt"),
+            Fault::Memory => plain_line(b"fault memory\n"),
+        }
+    }
+
+    /// The status that it announces.
+    pub fn status(&self) -> Status
+        ensures { result ≡ fault_status self.now }
+    {
+        match *self {
+            Fault::Usage => Status::Usage,
+            Fault::ReadScript | Fault::ReadRecord => Status::ReadFault,
+            Fault::LongScript | Fault::LongRecord => Status::TooLong,
+            Fault::BadScript { .. } => Status::BadScript,
+            Fault::BadRecord { .. } => Status::BadRecord,
+            Fault::Memory => Status::Memory,
+        }
+    }
+}
