@@ -1,13 +1,13 @@
-pub mod Splits
-pub mod Walks
 pub mod Lists
 pub mod Plays
 pub mod LaterEvents
 pub mod Votes
 pub mod Heard
 pub mod Blocks
-pub mod Fronts
-pub mod RecordFrames
 pub mod Asked
 pub mod FreshForces
+pub mod Playing
+pub mod Reading
+pub mod Finishing
+pub mod Records
 pub mod Outcomes

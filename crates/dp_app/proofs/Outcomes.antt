@@ -1,31 +1,33 @@
 -- Outcomes, from what was asked.
-use Rattle.std.proofs.Common.{◌≡◌, ℕ, List, [], ◌++◌, Option, Some, None, Err, Result, IfSome, inl, inr, refl, sym, ap, ◌∙◌, subst}
+use Rattle.std.proofs.Common.{◌≡◌, ℕ, List, ◌++◌, length, Option, Some, None, Err, Result, IfSome, inl, inr, refl, sym, ap, ◌∙◌, subst}
 use Rattle.dp_plant.specs.declared.plant.Plant.{Plant}
 use Rattle.dp_script.specs.declared.event.Event.{Event as Scripted}
 use Rattle.dp_shell.specs.Taken.{AppendsFront}
 use Rattle.dp_shell.specs.Texts.{Files}
 use Rattle.dp_shell.proofs.TakenParts.{parts_line, parts_text}
 use Rattle.dp_app.specs.declared.fault.Fault.{Fault}
-use Rattle.dp_app.specs.declared.fault.Fault.TheVariants.{BadRecord, BadScript, LongRecord, LongScript, Memory, ReadRecord, ReadScript, Usage}
-use Rattle.dp_app.specs.declared.reading.Reading.{Reading}
-use Rattle.dp_app.specs.Blocks.{blocks, text_of}
+use Rattle.dp_app.specs.declared.fault.Fault.TheVariants.{BadRecord, BadScript, LongCycles, LongRecord, LongScript, Memory, ReadRecord, ReadScript, Usage}
 use Rattle.dp_app.specs.FaultLines.{fault_line, fault_status}
-use Rattle.dp_app.specs.Frames.{frames_in}
 use Rattle.dp_app.specs.Headline.{TellsReferenceForces}
-use Rattle.dp_app.specs.Outcome.{IsPlain, Outcome, Play, asked, cycles_played, ended, last_line, last_status, outcome_of, play_with, played_out}
+use Rattle.dp_app.specs.Outcome.{Front, IsPlain, Outcome, Play, asked, ended, last_line, last_status, outcome_of, play_of, played_out}
+use Rattle.dp_app.specs.Playing.{text_first}
 use Rattle.dp_app.specs.Written.{TakesOutcome}
-use Rattle.dp_app.proofs.RecordFrames.{frames_length}
 
-pub played_text : (p : Plant) (script : List Scripted) (readings : List Reading) (fault : Option Fault) (count : ℕ) → count ≡ cycles_played fault readings
-    → text_of (blocks p script (frames_in readings count) []) ++ last_line count fault ≡ (played_out (play_with p script readings fault)).text
-unfolding played_out play_with
-played_text p script readings fault count is =
-    ap (λ (n : ℕ). text_of (blocks p script (frames_in readings n) []) ++ last_line n fault) is
-    ∙ ap (λ (n : ℕ). text_of (blocks p script (frames_in readings (cycles_played fault readings)) []) ++ last_line n fault) (sym (frames_length readings (cycles_played fault readings)))
+-- the outcome of what a record plays
+pub out_is : (p : Plant) (script : List Scripted) (f : Front) (count : ℕ) (fault : Option Fault) → count ≡ length (play_of p script f).frames → fault ≡ (play_of p script f).fault
+    → text_first p script (play_of p script f).frames ++ last_line count fault ≡ (played_out (play_of p script f)).text
+unfolding played_out play_of
+out_is p script f count fault many is =
+    let first = text_first p script (play_of p script f).frames in
+    ap (λ (n : ℕ). first ++ last_line n fault) many ∙ ap (λ (o : Option Fault). first ++ last_line (length (play_of p script f).frames) o) is
 
-pub played_status : (p : Plant) (script : List Scripted) (readings : List Reading) (fault : Option Fault) → last_status fault ≡ (played_out (play_with p script readings fault)).status
-unfolding played_out play_with
-played_status p script readings fault = refl
+-- with its last line in whatever words
+pub out_front : (p : Plant) (script : List Scripted) (f : Front) → text_first p script (play_of p script f).frames ++ last_line (length (play_of p script f).frames) (play_of p script f).fault ≡ (played_out (play_of p script f)).text
+out_front p script f = out_is p script f (length (play_of p script f).frames) (play_of p script f).fault refl refl
+
+pub status_is : (p : Plant) (script : List Scripted) (f : Front) (fault : Option Fault) → fault ≡ (play_of p script f).fault → last_status fault ≡ (played_out (play_of p script f)).status
+unfolding played_out
+status_is p script f fault is = ap last_status is
 
 -- what holds of the outcome of what is asked
 pub outcome_is : (files : Option Files) (words : List (List ℕ)) (r : Result Play Fault) (P : Outcome → Type 0)
@@ -54,7 +56,8 @@ refused_parts files words Usage a b asks front = told_parts files words Usage a 
 refused_parts files words LongScript a b asks front = told_parts files words LongScript a b (asks tt) front
 refused_parts files words (BadScript line kind) a b asks front = told_parts files words (BadScript line kind) a b (asks tt) front
 refused_parts files words LongRecord a b asks front = told_parts files words LongRecord a b (asks tt) front
-refused_parts files words (BadRecord line) a b asks front = told_parts files words (BadRecord line) a b (asks tt) front
+refused_parts files words (BadRecord line kind) a b asks front = told_parts files words (BadRecord line kind) a b (asks tt) front
+refused_parts files words (LongCycles cycle) a b asks front = told_parts files words (LongCycles cycle) a b (asks tt) front
 refused_parts files words ReadScript a b asks front =
     any_files files (λ told. TakesOutcome a b (outcome_of words told).text)
     (λ told. inr (inl (parts_line a b (outcome_of words told).text (fault_line ReadScript) front)))

@@ -56,6 +56,10 @@ module _ (p : Plant) (script : List Scripted) where
   played_append [] gs es = refl
   played_append (f ∷ fs) gs es = played_append fs gs (cycled p script f es)
 
+  pub played_none : (es : List Event) → es ≡ played p script [] es
+  unfolding played
+  played_none es = refl
+
   played_one : (f : Frame) (es : List Event) → played p script (f ∷ []) es ≡ cycled p script f es
   unfolding played
   played_one f es = refl

@@ -2,13 +2,11 @@ pub mod Status
 pub mod Words
 pub mod Named
 pub mod FaultLines
-pub mod Reading
-pub mod ReadingRange
-pub mod GoodLines
-pub mod Judged
-pub mod Frames
 pub mod Acting
 pub mod Blocks
+pub mod Heard
+pub mod Readable
+pub mod Playing
 pub mod Outcome
 pub mod Fronts
 pub mod Causes

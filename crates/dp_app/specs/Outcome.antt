@@ -1,8 +1,14 @@
 -- What a command plays, how it ends, and all that it writes.
-use Rattle.std.specs.Prelude.{◌≢◌, ℕ, Bool, true, false, nat_lt, List, [], ◌++◌, length, take, Option, Some, None, Result, Ok, Err, if◌then◌else◌, codes}
+use Rattle.std.specs.Prelude.{◌≢◌, ℕ, Bool, true, false, nat_lt, List, [], ◌++◌, length, take, Option, Some, None, is_some, Result, Ok, Err, if◌then◌else◌, codes}
 use Rattle.std.specs.Fmt.{decimal}
 use Rattle.dp_shell.specs.Texts.{Files, text_named}
-use Rattle.dp_text.specs.Lines.{lines_of}
+use Rattle.dp_text.specs.Lines.{lines_of as text_lines}
+use Rattle.dp_frame.specs.declared.fault.Refusal.{Refusal}
+use Rattle.dp_frame.specs.declared.fault.Refusal.TheVariants as refusal
+use Rattle.dp_frame.specs.declared.settings.Settings.{Settings}
+use Rattle.dp_frame.specs.Cycles.{frames_so_far, record_frames}
+use Rattle.dp_frame.specs.Record.{all_lines, ended_lines, first_refusal}
+use Rattle.dp_frame.specs.Represents.{settings_of}
 use Rattle.dp_plant.specs.BuiltInPlant.{built_in_plant}
 use Rattle.dp_plant.specs.declared.frames.Frame.{Frame}
 use Rattle.dp_plant.specs.declared.plant.Plant.{Plant}
@@ -12,14 +18,11 @@ use Rattle.dp_script.specs.declared.fault.ScriptFault.TheVariants as script_faul
 use Rattle.dp_script.specs.Events.{events_by}
 use Rattle.dp_script.specs.Faults.{fault_in}
 use Rattle.dp_app.specs.declared.fault.Fault.{Fault}
-use Rattle.dp_app.specs.declared.fault.Fault.TheVariants.{Usage, ReadScript, LongScript, BadScript, ReadRecord, LongRecord, BadRecord}
-use Rattle.dp_app.specs.declared.reading.Reading.{Reading}
+use Rattle.dp_app.specs.declared.fault.Fault.TheVariants.{Usage, ReadScript, LongScript, BadScript, ReadRecord, LongRecord, BadRecord, LongCycles}
 use Rattle.dp_app.specs.declared.status.Status.{Status}
 use Rattle.dp_app.specs.declared.status.Status.TheVariants as status
 use Rattle.dp_app.specs.Blocks.{blocks, text_of}
 use Rattle.dp_app.specs.FaultLines.{fault_line, fault_status}
-use Rattle.dp_app.specs.Frames.{frames_in, record_length, last_cycle}
-use Rattle.dp_app.specs.GoodLines.{readings_of, faulty_of}
 use Rattle.dp_app.specs.Words.{Names, names_in}
 
 -- ---- how it ends
@@ -73,24 +76,31 @@ pub record Front : Type 0 where
 abbrev pub front_of : ℕ → List ℕ → Front
 front_of limit text = record { text = take limit text; goes_on = nat_lt limit (length text) }
 
--- the fault of a record that has a faulty line or none, and goes on past its limit or not
-abbrev pub record_fault : Option ℕ → Bool → Option Fault
-record_fault (Some number) goes_on = Some (BadRecord number)
+-- its lines, newest first; where it goes on, what stands after its last line feed isn't a line yet
+abbrev pub lines_of : Front → List (List ℕ)
+lines_of f = if f.goes_on then ended_lines f.text else all_lines f.text
+
+-- the fault that the first line which can't be taken gives
+abbrev pub refused_by : Refusal → Fault
+refused_by (refusal.Faulty line kind) = BadRecord line kind
+refused_by (refusal.TooMany line cycle) = LongCycles cycle
+
+-- the fault of a record: that of its first line that can't be taken, else that it goes on past its limit
+abbrev pub record_fault : Option Refusal → Bool → Option Fault
+record_fault (Some r) goes_on = Some (refused_by r)
 record_fault None true = Some LongRecord
 record_fault None false = None
 
--- how many cycles are played: all, or where the record is refused those before that of its last good line
-abbrev pub cycles_played : Option Fault → List Reading → ℕ
-cycles_played (Some fault) readings = last_cycle readings
-cycles_played None readings = record_length readings
+-- the frames that are played: all of a record, or where it is refused those of the cycles before that of its last good line
+abbrev pub frames_played : Settings → List (List ℕ) → Option Fault → List Frame
+frames_played s lines fault = if is_some fault then frames_so_far s lines else record_frames s lines
 
--- what the good lines' readings play
-unfoldable pub play_with : Plant → List Scripted → List Reading → Option Fault → Play
-play_with p script readings fault = record { plant = p; script = script; frames = frames_in readings (cycles_played fault readings); fault = fault }
-
--- what a record plays
+-- what a record plays on a plant
 unfoldable pub play_of : Plant → List Scripted → Front → Play
-play_of p script f = let lines = lines_of f.goes_on f.text in play_with p script (readings_of lines) (record_fault (faulty_of lines) f.goes_on)
+play_of p script f =
+    let s = settings_of p in
+    let fault = record_fault (first_refusal s (lines_of f)) f.goes_on in
+    record { plant = p; script = script; frames = frames_played s (lines_of f) fault; fault = fault }
 
 -- the most bytes of a record, 2^36
 abbrev pub record_limit : ℕ
@@ -114,7 +124,7 @@ script_fault_of f = if f.goes_on then Some LongScript else line_fault (fault_in 
 
 -- a script's acts in order, each with its cycle
 abbrev pub script_of : Front → List Scripted
-script_of f = events_by (lines_of false f.text)
+script_of f = events_by (text_lines false f.text)
 
 -- the most bytes of a script, 2^24
 abbrev pub script_limit : ℕ

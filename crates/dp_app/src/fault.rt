@@ -2,15 +2,19 @@
 ghost use Rattle.std.specs.Prelude.{◌≡◌, ◌++◌, ◌≤◌, ◌+◌, length, codes};
 ghost use Rattle.std.specs.Fmt.{decimal};
 ghost use Rattle.arrayvec.specs.ArrayVec.{array_vec_len};
-ghost use Rattle.dp_app.specs.FaultLines.{fault_line, fault_status, kind_word, named_line};
+ghost use Rattle.dp_app.specs.FaultLines.{fault_line, fault_status, kind_word, line_kind_word, named_line};
 
 use crate::Status;
 use arrayvec::ArrayVec;
+use dp_frame::LineFault;
 use dp_script::ScriptKind;
 use dp_text::{append, append_decimal};
 
 /// Room for the longest fault line.
-pub const LINE: usize = 96;
+pub const LINE: usize = 128;
+
+/// Room for the longest word of a record line's fault.
+const WORD: usize = 48;
 
 /// Why a run is refused.
 #[derive(Clone, Copy, Debug, PartialEq, Eq)]
@@ -28,7 +32,9 @@ pub enum Fault {
     /// The record is longer than its limit.
     LongRecord,
     /// The first faulty line of the record.
-    BadRecord { line: u64 },
+    BadRecord { line: u64, kind: LineFault },
+    /// A line of the record, in which no earlier line is faulty, is of a cycle of 2^20 or more.
+    LongCycles { cycle: u64 },
     /// Memory was wanted.
     Memory,
 }
@@ -45,6 +51,38 @@ fn kind_word(kind: ScriptKind) -> &'static [u8]
     }
 }
 
+/// The word of a record line's fault; of a time that falls with the time before and this one.
+fn line_kind_word(kind: LineFault) -> ArrayVec<u8, WORD>
+    ensures word { result.items ≡ line_kind_word kind }
+    ensures short { length result.items ≤ 48 }
+{
+    let mut word = ArrayVec::new();
+    match kind {
+        LineFault::LongLine => append(&mut word, b"long"),
+        LineFault::NoTime => append(&mut word, b"notime"),
+        LineFault::BadTime => append(&mut word, b"badtime"),
+        LineFault::TimeBack { before, now } => {
+            append(&mut word, b"back ");
+            append_decimal(&mut word, before);
+            append(&mut word, b" ");
+            append_decimal(&mut word, now);
+        }
+        LineFault::NoWire => append(&mut word, b"nowire"),
+        LineFault::UnknownWire => append(&mut word, b"unknown"),
+    }
+    word
+}
+
+fn long_cycles_line(cycle: u64) -> ArrayVec<u8, LINE>
+    ensures { result.items ≡ codes "fault long cycles " ++ (decimal cycle ++ codes "\n") }
+{
+    let mut line = ArrayVec::new();
+    append(&mut line, b"fault long cycles ");
+    append_decimal(&mut line, cycle);
+    append(&mut line, b"\n");
+    line
+}
+
 /// A line without a number.
 fn plain_line(text: &[u8]) -> ArrayVec<u8, LINE>
     requires { length text.now ≤ 32 }
@@ -58,7 +96,7 @@ fn plain_line(text: &[u8]) -> ArrayVec<u8, LINE>
 /// A line that names a line of a file.
 fn named_line(file: &[u8], number: u64, kind: &[u8]) -> ArrayVec<u8, LINE>
     requires file { length file.now ≤ 6 }
-    requires kind { length kind.now ≤ 7 }
+    requires kind { length kind.now ≤ 48 }
     ensures { result.items ≡ named_line file.now number kind.now }
 {
     let mut line = ArrayVec::new();
@@ -85,7 +123,8 @@ impl Fault {
             Fault::BadScript { line, kind } => named_line(b"script", line, kind_word(kind)),
             Fault::ReadRecord => plain_line(b"fault read record\n"),
             Fault::LongRecord => plain_line(b"fault long record\n"),
-            Fault::BadRecord { line } => named_line(b"record", line, b"unbuilt"),
+            Fault::BadRecord { line, kind } => named_line(b"record", line, &line_kind_word(kind)),
+            Fault::LongCycles { cycle } => long_cycles_line(cycle),
             Fault::Memory => plain_line(b"fault memory\n"),
         }
     }
@@ -97,7 +136,7 @@ impl Fault {
         match *self {
             Fault::Usage => Status::Usage,
             Fault::ReadScript | Fault::ReadRecord => Status::ReadFault,
-            Fault::LongScript | Fault::LongRecord => Status::TooLong,
+            Fault::LongScript | Fault::LongRecord | Fault::LongCycles { .. } => Status::TooLong,
             Fault::BadScript { .. } => Status::BadScript,
             Fault::BadRecord { .. } => Status::BadRecord,
             Fault::Memory => Status::Memory,

@@ -9,10 +9,17 @@ ghost use Rattle.dp_app.specs.Causes.{HasPassed, OthersOfTwoStay, RoseAt};
 ghost use Rattle.dp_app.specs.FaultLines.{fault_status};
 ghost use Rattle.dp_app.specs.Fronts.{front_read};
 ghost use Rattle.dp_app.specs.Outcome.{IsPlain, asked, front_of, play_of, record_limit, script_fault_of, script_limit, script_of};
+ghost use Rattle.dp_app.specs.Playing.{HasPlayed};
+ghost use Rattle.dp_app.specs.Readable.{IsReadable};
 ghost use Rattle.dp_app.specs.Words.{names_in};
+ghost use Rattle.dp_plant.specs.declared.plant.Plant.{Plant};
+ghost use Rattle.dp_script.specs.declared.event.Event.{Event as Scripted};
+ghost use Rattle.std.specs.Prelude.{List};
 
 use crate::fault::Fault;
+use crate::player::Player;
 use crate::words::names_in;
+use arrayvec::ArrayVec;
 use dp_core::World;
 use dp_core::built_in::built_in_plant_is_operable;
 use dp_plant::{Plant, p0};
@@ -30,7 +37,7 @@ const RECORD_LIMIT: usize = 1 << 36;
 #[derive(Drop)]
 pub struct Inputs {
     pub plant: Plant,
-    pub world: World,
+    pub player: Player,
     pub script: Script,
     pub record: Whole,
 }
@@ -90,8 +97,7 @@ fn read_record<F: Shelf>(alloc: Global, shelf: &mut F, name: &str) -> Result<Who
     }
 }
 
-/// Three live computers and the voters of the built-in plant.
-#[tactic(auto, unfolding(dp_plant::specs::BuiltInPlant::built_in_plant))]
+/// The world of the built-in plant, three live computers and its voters, before the first cycle.
 fn built_in_world(alloc: Global) -> Result<World, Fault>
     ensures plant { IfOk result (λ world. world.plant ≡ built_in_plant) }
     ensures represents { IfOk result (λ world. Represents [] world) }
@@ -101,10 +107,32 @@ fn built_in_world(alloc: Global) -> Result<World, Fault>
     World::new(alloc, &p0()).map_err(|_| Fault::Memory)
 }
 
+/// A world that hasn't played yet.
+#[tactic(auto, using(crate::proofs::Plays::played_none))]
+fn player_of(world: World) -> Player
+    ensures { (p : Plant) (script : List Scripted) → world.plant ≡ p → Represents [] world → HasPlayed p script result [] }
+{
+    Player {
+        world,
+        count: 0,
+        block: ArrayVec::new(),
+    }
+}
+
+/// The built-in plant, whose record can be read.
+#[tactic(auto, unfolding(dp_plant::specs::BuiltInPlant::built_in_plant))]
+fn built_in() -> Plant
+    ensures value { result ≡ built_in_plant }
+    ensures readable { IsReadable result }
+{
+    p0()
+}
+
 /// Reads all that a replay is given, the script before the record, or says why it is refused.
 pub fn gather<F: Shelf>(alloc: Global, words: &[&str], shelf: &mut F) -> Result<Inputs, Fault>
     ensures ok { IfOk result (λ i. IfSome (F.files shelf.old) (λ files. asked (texts_of words.now) files ≡ Ok (play_of i.plant i.script (front_read i.record)))) }
-    ensures world { IfOk result (λ i. (i.world.plant ≡ i.plant) × Represents [] i.world) }
+    ensures readable { IfOk result (λ i. IsReadable i.plant) }
+    ensures player { IfOk result (λ i. HasPlayed i.plant i.script i.player []) }
     ensures size { IfOk result (λ i. length i.record.text.items ≤ 2 ^ 36) }
 
     // A refusal that is told by words and files is theirs.
@@ -127,8 +155,8 @@ pub fn gather<F: Shelf>(alloc: Global, words: &[&str], shelf: &mut F) -> Result<
     let world = built_in_world(alloc)?;
     let record = read_record(alloc, shelf, names.record)?;
     Ok(Inputs {
-        plant: p0(),
-        world,
+        plant: built_in(),
+        player: player_of(world),
         script,
         record,
     })

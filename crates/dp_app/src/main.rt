@@ -1,4 +1,4 @@
-//! `dp replay RECORD SCRIPT` replays a record of position readings on three computers, with the faults that a script says, and prints
+//! `dp replay RECORD SCRIPT` replays a record of sensor lines on three computers, with the faults that a script says, and prints
 //! the voted forces of each cycle.
 //!
 //! All of it is [`run`], which is proved over whatever holds the files and takes the text; `main` makes the real ones and calls it.
@@ -6,14 +6,11 @@
 
 mod acting;
 mod cycle;
-mod cycles;
 mod fault;
-mod frames;
 mod inputs;
-mod judging;
 mod laws;
+mod player;
 mod program;
-mod reading;
 mod replay;
 mod status;
 #[cfg(test)]

@@ -51,9 +51,8 @@ pub fn run<F: Shelf, K: Sink>(alloc: Global, words: &[&str], shelf: &mut F, out:
     fresh_forces_are_reference();
     match gather(alloc, words, shelf) {
         Ok(mut inputs) => replay(
-            alloc,
+            &mut inputs.player,
             out,
-            &mut inputs.world,
             &inputs.plant,
             &inputs.script,
             &inputs.record,

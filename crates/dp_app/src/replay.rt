@@ -1,59 +1,132 @@
 //! A replay: the blocks of a record's cycles, and the last line.
-ghost use Rattle.std.specs.Prelude.{◌≡◌, ◌≢◌, ◌⊎◌, ◌<◌, ◌≤◌, ◌^◌, [], OnOk, OnErr, length};
-ghost use Rattle.std.specs.List.{All};
+ghost use Rattle.std.specs.Prelude.{◌≡◌, ◌≢◌, ◌⊎◌, ◌<◌, ◌≤◌, ◌^◌, [], List, ℕ, IfOk, OnOk, OnErr, None, false, length};
 ghost use Rattle.std.specs.Io.KnownBytes.{Appends};
 ghost use Rattle.dp_shell.specs.Faults.{HasWriteCause, Rose};
 ghost use Rattle.dp_shell.specs.Taken.{AppendsFront, TakesParts};
-ghost use Rattle.dp_core.specs.Represents.{Represents};
-ghost use Rattle.dp_app.specs.Blocks.{blocks, text_of};
+ghost use Rattle.dp_frame.specs.Feeds.{is_closed};
+ghost use Rattle.dp_frame.specs.Cycles.{frames_so_far, record_frames};
+ghost use Rattle.dp_frame.specs.Record.{all_lines, ended_lines, first_refusal};
+ghost use Rattle.dp_frame.specs.Represents.{IsOpen, Represents, settings_of};
 ghost use Rattle.dp_app.specs.FaultLines.{fault_line, fault_status};
-ghost use Rattle.dp_app.specs.Frames.{IsRising, frames_in};
 ghost use Rattle.dp_app.specs.Fronts.{front_read};
-ghost use Rattle.dp_app.specs.Outcome.{IsOfRecord, IsPlain, cycles_played, end_line, last_line, last_status, play_of, play_with, played_out, record_fault};
-ghost use Rattle.dp_app.specs.ReadingRange.{IsReadingWithin};
+ghost use Rattle.dp_app.specs.Outcome.{IsOfRecord, IsPlain, end_line, last_line, last_status, play_of, played_out, record_fault};
+ghost use Rattle.dp_app.specs.Readable.{IsReadable};
+ghost use Rattle.dp_app.specs.Playing.{HasPlayed, IsPlaying, text_first, text_left};
 
 use crate::Status;
-use crate::cycle::cycle;
-use crate::cycles::{cycles, split_cycle};
 use crate::fault::{Fault, LINE};
-use crate::frames::frame;
-use crate::judging::judge;
-use crate::reading::Reading;
+use crate::player::Player;
 use arrayvec::ArrayVec;
-use dp_core::World;
+use dp_frame::{Feed, Lines};
 use dp_plant::Plant;
 use dp_script::Script;
 use dp_shell::{Sink, Trouble, Whole, write_all};
 use dp_text::{append, append_decimal};
-use std::alloc::Global;
+use dp_trig::Trig;
 
-/// Writes the blocks of the first cycles of a record, in one pass over its readings.
-fn write_blocks<K: Sink>(
+/// Plays the cycles that come to their end within a text, and answers the first fault in it, if any.
+fn play_text<K: Sink>(
+    player: &mut Player,
     out: &mut K,
-    world: &mut World,
     plant: &Plant,
     script: &Script,
-    readings: &[Reading],
-    count: u64,
-) -> Result<(), Trouble>
-    requires world { Represents [] world.old }
-    requires plant { world.old.plant ≡ plant.now }
-    requires rising { IsRising 0 readings.now }
-    requires within { All IsReadingWithin readings.now }
-    requires count { count ≤ 2 ^ 20 }
-    ensures ok { OnOk result (Appends (K.taken out.old) (K.taken out.new) (text_of (blocks plant.now script.now (frames_in readings.now count) []))) }
-    ensures err { OnErr result (AppendsFront (K.taken out.old) (K.taken out.new) (text_of (blocks plant.now script.now (frames_in readings.now count) []))) }
+    lines: &mut Lines,
+    text: &[u8],
+) -> Result<Option<Fault>, Trouble>
+    requires cycle { 0 < plant.now.cycle_ms }
+    requires played { HasPlayed plant.now script.now player.old [] }
+    requires settings { lines.old.book.settings ≡ settings_of plant.now }
+    requires represents { Represents lines.old [] }
+    requires open { IsOpen lines.old }
+    requires first { lines.old.book.kept.cycle ≡ 0 }
+    requires size { length text.now ≤ 2 ^ 36 }
+    ensures fault { IfOk result (λ fault. fault ≡ record_fault (first_refusal (settings_of plant.now) (ended_lines text.now)) false) }
+    ensures played { OnOk result (HasPlayed plant.now script.now player.new (frames_so_far (settings_of plant.now) (ended_lines text.now))) }
+    ensures ok { OnOk result (Appends (K.taken out.old) (K.taken out.new) (text_first plant.now script.now (frames_so_far (settings_of plant.now) (ended_lines text.now)))) }
+    ensures err { OnErr result (AppendsFront (K.taken out.old) (K.taken out.new) (text_first plant.now script.now (frames_so_far (settings_of plant.now) (ended_lines text.now)))) }
+    ensures cause { HasWriteCause (K.faults out.old) (K.faults out.new) result }
+    ensures lines { IfOk result (λ fault. fault ≡ None → Represents lines.new text.now × IsOpen lines.new × (lines.new.book.kept.cycle ≡ player.new.count)) }
+    ensures settings { lines.new.book.settings ≡ settings_of plant.now }
+{
+    for byte in text {
+        let feed = lines.feed(*byte);
+        let fault = player.hear(out, plant, script, &feed)?;
+        if fault.is_some() {
+            return Ok(fault);
+        }
+    }
+    Ok(None)
+}
+
+/// The answer closes a frame.
+fn is_closed(feed: &Feed) -> bool
+    ensures { result ≡ is_closed feed.now }
+{
+    match feed {
+        Feed::Closed { .. } => true,
+        Feed::More | Feed::Fault { .. } | Feed::TooMany { .. } => false,
+    }
+}
+
+/// Plays what is left at the end of a record, and answers the fault of its last line, if it has one.
+fn play_end<K: Sink>(
+    player: &mut Player,
+    out: &mut K,
+    plant: &Plant,
+    script: &Script,
+    lines: &mut Lines,
+) -> Result<Option<Fault>, Trouble>
+    requires cycle { 0 < plant.now.cycle_ms }
+    requires playing { IsPlaying plant.now script.now player.old }
+    requires settings { lines.old.book.settings ≡ settings_of plant.now }
+    requires open { IsOpen lines.old }
+    requires next { lines.old.book.kept.cycle ≡ player.old.count }
+    ensures fault { (text : List ℕ) → Represents lines.old text
+        → IfOk result (λ fault. fault ≡ record_fault (first_refusal (settings_of plant.now) (all_lines text)) false) }
+    ensures played { (text : List ℕ) → Represents lines.old text → HasPlayed plant.now script.now player.old (frames_so_far (settings_of plant.now) (ended_lines text))
+        → OnOk result (HasPlayed plant.now script.now player.new (record_frames (settings_of plant.now) (all_lines text))) }
+    ensures ok { (text : List ℕ) → Represents lines.old text → HasPlayed plant.now script.now player.old (frames_so_far (settings_of plant.now) (ended_lines text))
+        → OnOk result (Appends (K.taken out.old) (K.taken out.new) (text_left plant.now script.now text)) }
+    ensures err { (text : List ℕ) → Represents lines.old text → HasPlayed plant.now script.now player.old (frames_so_far (settings_of plant.now) (ended_lines text))
+        → OnErr result (AppendsFront (K.taken out.old) (K.taken out.new) (text_left plant.now script.now text)) }
     ensures cause { HasWriteCause (K.faults out.old) (K.faults out.new) result }
 {
-    let mut text = ArrayVec::new();
-    let mut left = readings;
-    for n in 0..count {
-        let (now, later) = split_cycle(left, n);
-        cycle(world, plant, script, &frame(n, now), &mut text);
-        write_all(out, &text)?;
-        left = later;
+    loop {
+        let feed = lines.finish();
+        let fault = player.hear(out, plant, script, &feed)?;
+        if !is_closed(&feed) {
+            return Ok(fault);
+        }
     }
-    Ok(())
+}
+
+/// Plays a record, of which the text may go on past its limit, and answers its fault, if it has one.
+fn play_record<K: Sink>(
+    player: &mut Player,
+    out: &mut K,
+    plant: &Plant,
+    script: &Script,
+    file: &Whole,
+) -> Result<Option<Fault>, Trouble>
+    requires readable { IsReadable plant.now }
+    requires played { HasPlayed plant.now script.now player.old [] }
+    requires size { length file.now.text.items ≤ 2 ^ 36 }
+    ensures fault { IfOk result (λ fault. fault ≡ (play_of plant.now script.now (front_read file.now)).fault) }
+    ensures of_record { IfOk result IsOfRecord }
+    ensures played { OnOk result (HasPlayed plant.now script.now player.new (play_of plant.now script.now (front_read file.now)).frames) }
+    ensures ok { OnOk result (Appends (K.taken out.old) (K.taken out.new) (text_first plant.now script.now (play_of plant.now script.now (front_read file.now)).frames)) }
+    ensures err { OnErr result (AppendsFront (K.taken out.old) (K.taken out.new) (text_first plant.now script.now (play_of plant.now script.now (front_read file.now)).frames)) }
+    ensures cause { HasWriteCause (K.faults out.old) (K.faults out.new) result }
+{
+    let mut lines = Lines::new(plant, &Trig::new());
+    let fault = play_text(player, out, plant, script, &mut lines, &file.text)?;
+    if fault.is_some() {
+        return Ok(fault);
+    }
+    if file.is_cut {
+        return Ok(Some(Fault::LongRecord));
+    }
+    play_end(player, out, plant, script, &mut lines)
 }
 
 #[tactic(auto, unfolding(crate::specs::Outcome::end_line))]
@@ -105,58 +178,16 @@ fn finish<K: Sink>(out: &mut K, fault: Option<Fault>, count: u64) -> Status
     }
 }
 
-/// The fault of a record that has a faulty line or none, and goes on past its limit or not.
-fn record_fault(faulty: Option<u64>, goes_on: bool) -> Option<Fault>
-    ensures value { result ≡ record_fault faulty goes_on }
-    ensures of_record { IsOfRecord result }
-{
-    match faulty {
-        Some(line) => Some(Fault::BadRecord { line }),
-        None if goes_on => Some(Fault::LongRecord),
-        None => None,
-    }
-}
-
-/// Plays what a record's readings and its fault come to.
-#[tactic(auto, using(dp_shell::proofs::TakenParts::parts), unfolding(crate::specs::Outcome::played_out, crate::specs::Outcome::play_with))]
-fn play<K: Sink>(
-    out: &mut K,
-    world: &mut World,
-    plant: &Plant,
-    script: &Script,
-    readings: &[Reading],
-    fault: Option<Fault>,
-) -> Status
-    requires world { Represents [] world.old }
-    requires plant { world.old.plant ≡ plant.now }
-    requires rising { IsRising 0 readings.now }
-    requires within { All IsReadingWithin readings.now }
-    ensures plain { IsPlain result → (result ≡ (played_out (play_with plant.now script.now readings.now fault)).status)
-        × Appends (K.taken out.old) (K.taken out.new) (played_out (play_with plant.now script.now readings.now fault)).text }
-    ensures parts { TakesParts (K.taken out.old) (K.taken out.new) (played_out (play_with plant.now script.now readings.now fault)).text (fault_line Fault.Memory) }
-    ensures write { result ≡ Status.WriteFault → Rose (K.faults out.old) (K.faults out.new) }
-    ensures read { IsOfRecord fault → (result ≢ Status.ReadFault) × (result ≢ Status.Usage) }
-{
-    let count = cycles(readings, fault);
-    match write_blocks(out, world, plant, script, readings, count) {
-        Ok(()) => finish(out, fault, count),
-        Err(Trouble::Failed) => Status::WriteFault,
-        Err(Trouble::Memory) => announce(out, Fault::Memory),
-    }
-}
-
 /// Replays a record, of which the text may go on past its limit.
-#[tactic(auto, unfolding(crate::specs::Outcome::play_of))]
 pub fn replay<K: Sink>(
-    alloc: Global,
+    player: &mut Player,
     out: &mut K,
-    world: &mut World,
     plant: &Plant,
     script: &Script,
     file: &Whole,
 ) -> Status
-    requires world { Represents [] world.old }
-    requires plant { world.old.plant ≡ plant.now }
+    requires readable { IsReadable plant.now }
+    requires played { HasPlayed plant.now script.now player.old [] }
     requires size { length file.now.text.items ≤ 2 ^ 36 }
     ensures plain { IsPlain result → (result ≡ (played_out (play_of plant.now script.now (front_read file.now))).status)
         × Appends (K.taken out.old) (K.taken out.new) (played_out (play_of plant.now script.now (front_read file.now))).text }
@@ -164,15 +195,9 @@ pub fn replay<K: Sink>(
     ensures write { result ≡ Status.WriteFault → Rose (K.faults out.old) (K.faults out.new) }
     ensures read { (result ≢ Status.ReadFault) × (result ≢ Status.Usage) }
 {
-    let Ok(judged) = judge(alloc, &file.text, file.is_cut) else {
-        return announce(out, Fault::Memory);
-    };
-    play(
-        out,
-        world,
-        plant,
-        script,
-        &judged.readings,
-        record_fault(judged.faulty, file.is_cut),
-    )
+    match play_record(player, out, plant, script, file) {
+        Ok(fault) => finish(out, fault, player.count),
+        Err(Trouble::Failed) => Status::WriteFault,
+        Err(Trouble::Memory) => announce(out, Fault::Memory),
+    }
 }

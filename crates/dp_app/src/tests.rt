@@ -3,6 +3,7 @@ use dp_shell::{MemoryShelf, MemorySink, PlainShelf, PlainSink, fits_shelf};
 use std::process::Abort;
 use std::test::Fail;
 
+mod readings;
 mod refusals;
 mod replays;
 
@@ -47,32 +48,45 @@ fn plays(rt: &impl Abort, alloc: Global, row: &str) -> Result<(), Fail> {
 /// A record that is cut after each of its bytes.
 #[test]
 fn a_cut_record_is_played(rt: HostRuntime) -> Result<(), Fail> {
-    let record = b"0 pos0 L 100 0\n0 pos1 L 20 7\r\n\n1000 pos2 L -5 9";
+    let record =
+        b"0 pos0 L 100 0\r\n\n1000 pos2 $GPGGA,,4807.048,N,01131.000,E,1*59\n2000 pos1 L 9";
     let rows = [
         (0, 0, "0~end 0\n"),
-        (1, 13, "7~fault record 1 unbuilt\n"),
+        (1, 1, "7~fault record 1 badtime\n"),
+        (2, 2, "7~fault record 1 nowire\n"),
+        (3, 5, "7~fault record 1 unknown\n"),
         (
-            14,
-            15,
+            6,
+            17,
             "0~cycle 0 LLL\nt0 F 0 0 0 0\nt1 F 0 0 0 0\nt2 F 0 0 0 0\nend 1\n",
         ),
-        (16, 27, "7~fault record 2 unbuilt\n"),
+        (18, 21, "7~fault record 3 badtime\n"),
+        (22, 22, "7~fault record 3 nowire\n"),
+        (23, 25, "7~fault record 3 unknown\n"),
         (
-            28,
-            28,
-            "0~cycle 0 LLL\nt0 F 0 0 0 0\nt1 F 0 0 0 0\nt2 F 0 0 0 0\nend 1\n",
+            26,
+            63,
+            "0~cycle 0 LLL\nt0 F 0 0 0 0\nt1 F 0 0 0 0\nt2 F 0 0 0 0\ncycle 1 LLL\nt0 F -6836 -6836 -6836 -6836\nt1 F 0 0 0 0\nt2 F 0 0 0 0\nend 2\n",
         ),
-        (29, 29, "7~fault record 2 unbuilt\n"),
         (
-            30,
-            31,
-            "0~cycle 0 LLL\nt0 F 0 0 0 0\nt1 F 0 0 0 0\nt2 F 0 0 0 0\nend 1\n",
+            64,
+            67,
+            "7~cycle 0 LLL\nt0 F 0 0 0 0\nt1 F 0 0 0 0\nt2 F 0 0 0 0\nfault record 4 badtime\n",
         ),
-        (32, 46, "7~fault record 4 unbuilt\n"),
         (
-            47,
-            47,
-            "0~cycle 0 LLL\nt0 F 0 0 0 0\nt1 F 0 0 0 0\nt2 F 0 0 0 0\ncycle 1 LLL\nt0 F -4101 -4101 -4101 -4101\nt1 F -239 -239 -239 -239\nt2 F 0 0 0 0\nend 2\n",
+            68,
+            68,
+            "7~cycle 0 LLL\nt0 F 0 0 0 0\nt1 F 0 0 0 0\nt2 F 0 0 0 0\nfault record 4 nowire\n",
+        ),
+        (
+            69,
+            71,
+            "7~cycle 0 LLL\nt0 F 0 0 0 0\nt1 F 0 0 0 0\nt2 F 0 0 0 0\nfault record 4 unknown\n",
+        ),
+        (
+            72,
+            76,
+            "0~cycle 0 LLL\nt0 F 0 0 0 0\nt1 F 0 0 0 0\nt2 F 0 0 0 0\ncycle 1 LLL\nt0 F -6836 -6836 -6836 -6836\nt1 F 0 0 0 0\nt2 F 0 0 0 0\ncycle 2 LLL\nt0 F -1272327 -1272327 -1272327 -1272327\nt1 F 0 0 0 0\nt2 F 0 0 0 0\nend 3\n",
         ),
     ];
     for (first, last, wanted) in rows {
@@ -129,8 +143,8 @@ fn a_cut_script_is_played(rt: HostRuntime) -> Result<(), Fail> {
 /// Bytes that are no text.
 #[test]
 fn bytes_are_judged(rt: HostRuntime) -> Result<(), Fail> {
-    let seen = played(&rt, rt.alloc(), b"0 pos0 L 1 2\n\xff\xfe\n", b"")?;
-    assert_eq!(rt; seen.as_str(), "7~fault record 2 unbuilt\n");
+    let seen = played(&rt, rt.alloc(), b"0 pos0 \xff\xfe\n\xff pos0\n", b"")?;
+    assert_eq!(rt; seen.as_str(), "7~fault record 2 notime\n");
     let seen = played(&rt, rt.alloc(), b"\xff\n", b"0 usual\n\xc3\x28\n")?;
     assert_eq!(rt; seen.as_str(), "8~fault script 2 verb\n");
     Ok(())

@@ -1,4 +1,4 @@
-//! Records and scripts that are refused at a line, and readings that are not.
+//! Records and scripts that are refused at a line.
 //!
 //! A row is `script~record~code~text`, as for whole replays.
 use super::plays;
@@ -14,52 +14,68 @@ fn scripts_are_judged(rt: HostRuntime) -> Result<(), Fail> {
          ~8~fault script 2 order\n",
         // a lone CR at the end of the script
         "1 run 0\n1 orders 0\r\
-         ~0 pos0 L 1000 0\n0 pos1 L 1000 0\n0 pos2 L 1000 0\n1000 pos0 L 1000 0\n1000 pos1 L 1000 0\n1000 pos2 L 1000 0\n2000 pos0 L 1000 0\n2000 pos1 L 1000 0\n2000 pos2 L 1000 0\n\
+         ~0 pos0 L 9 9\n\
          ~8~fault script 2 number\n",
-        // script: unknown verb
+        // unknown verb
         "0 usual\n0 fly 0\n0 run x\n\
-         ~0 pos0 L 1000 0\n0 pos1 L 1000 0\n0 pos2 L 1000 0\n1000 pos0 L 1000 0\n1000 pos1 L 1000 0\n1000 pos2 L 1000 0\n2000 pos0 L 1000 0\n2000 pos1 L 1000 0\n2000 pos2 L 1000 0\n\
+         ~0 pos0 L 9 9\n\
          ~8~fault script 2 verb\n",
-        // script: a wrong number of parts
-        "# one\n\n0 run 0 1\n\
-         ~0 pos0 L 1000 0\n0 pos1 L 1000 0\n0 pos2 L 1000 0\n1000 pos0 L 1000 0\n1000 pos1 L 1000 0\n1000 pos2 L 1000 0\n2000 pos0 L 1000 0\n2000 pos1 L 1000 0\n2000 pos2 L 1000 0\n\
-         ~8~fault script 3 verb\n",
-        // script: a number that is none
-        "0 usual\n1 orders x\n\
-         ~0 pos0 L 1000 0\n0 pos1 L 1000 0\n0 pos2 L 1000 0\n1000 pos0 L 1000 0\n1000 pos1 L 1000 0\n1000 pos2 L 1000 0\n2000 pos0 L 1000 0\n2000 pos1 L 1000 0\n2000 pos2 L 1000 0\n\
-         ~8~fault script 2 number\n",
-        // script: a computer below zero
-        "0 run -1\n\
-         ~0 pos0 L 1000 0\n0 pos1 L 1000 0\n0 pos2 L 1000 0\n1000 pos0 L 1000 0\n1000 pos1 L 1000 0\n1000 pos2 L 1000 0\n2000 pos0 L 1000 0\n2000 pos1 L 1000 0\n2000 pos2 L 1000 0\n\
-         ~8~fault script 1 number\n",
-        // script: no number at the end
-        "0 run \n\
-         ~0 pos0 L 1000 0\n0 pos1 L 1000 0\n0 pos2 L 1000 0\n1000 pos0 L 1000 0\n1000 pos1 L 1000 0\n1000 pos2 L 1000 0\n2000 pos0 L 1000 0\n2000 pos1 L 1000 0\n2000 pos2 L 1000 0\n\
-         ~8~fault script 1 number\n",
-        // script: a number of 19 digits
-        "0 say 0 0 4611686018427387904\n\
-         ~0 pos0 L 1000 0\n0 pos1 L 1000 0\n0 pos2 L 1000 0\n1000 pos0 L 1000 0\n1000 pos1 L 1000 0\n1000 pos2 L 1000 0\n2000 pos0 L 1000 0\n2000 pos1 L 1000 0\n2000 pos2 L 1000 0\n\
-         ~8~fault script 1 number\n",
-        // script: computer 3
-        "0 usual\n0 stop 3\n\
-         ~0 pos0 L 1000 0\n0 pos1 L 1000 0\n0 pos2 L 1000 0\n1000 pos0 L 1000 0\n1000 pos1 L 1000 0\n1000 pos2 L 1000 0\n2000 pos0 L 1000 0\n2000 pos1 L 1000 0\n2000 pos2 L 1000 0\n\
-         ~8~fault script 2 range\n",
-        // script: voter 12
-        "0 order 0 12\n\
-         ~0 pos0 L 1000 0\n0 pos1 L 1000 0\n0 pos2 L 1000 0\n1000 pos0 L 1000 0\n1000 pos1 L 1000 0\n1000 pos2 L 1000 0\n2000 pos0 L 1000 0\n2000 pos1 L 1000 0\n2000 pos2 L 1000 0\n\
-         ~8~fault script 1 range\n",
-        // script: a cycle of 2^20
-        "1048576 usual\n\
-         ~0 pos0 L 1000 0\n0 pos1 L 1000 0\n0 pos2 L 1000 0\n1000 pos0 L 1000 0\n1000 pos1 L 1000 0\n1000 pos2 L 1000 0\n2000 pos0 L 1000 0\n2000 pos1 L 1000 0\n2000 pos2 L 1000 0\n\
-         ~8~fault script 1 range\n",
-        // script: a place past 2^43
-        "0 skew 0 8796093022208 8796093022209\n\
-         ~0 pos0 L 1000 0\n0 pos1 L 1000 0\n0 pos2 L 1000 0\n1000 pos0 L 1000 0\n1000 pos1 L 1000 0\n1000 pos2 L 1000 0\n2000 pos0 L 1000 0\n2000 pos1 L 1000 0\n2000 pos2 L 1000 0\n\
-         ~8~fault script 1 range\n",
-        // script: a line of 193 bytes
-        "0 usual                                                                                                                                                                                          \n0 run 9\n\
-         ~0 pos0 L 1000 0\n0 pos1 L 1000 0\n0 pos2 L 1000 0\n1000 pos0 L 1000 0\n1000 pos1 L 1000 0\n1000 pos2 L 1000 0\n2000 pos0 L 1000 0\n2000 pos1 L 1000 0\n2000 pos2 L 1000 0\n\
+        // lie
+        "0 lie 0 1 0 0\n\
+         ~0 pos0 L 9 9\n\
          ~8~fault script 1 verb\n",
+        // a wrong number of parts
+        "# one\n\n0 run 0 1\n\
+         ~0 pos0 L 9 9\n\
+         ~8~fault script 3 verb\n",
+        // a number that is none
+        "0 usual\n1 orders x\n\
+         ~0 pos0 L 9 9\n\
+         ~8~fault script 2 number\n",
+        // a computer below zero
+        "0 run -1\n\
+         ~0 pos0 L 9 9\n\
+         ~8~fault script 1 number\n",
+        // no number at the end
+        "0 run \n\
+         ~0 pos0 L 9 9\n\
+         ~8~fault script 1 number\n",
+        // a number of 19 digits
+        "0 say 0 0 4611686018427387904\n\
+         ~0 pos0 L 9 9\n\
+         ~8~fault script 1 number\n",
+        // computer 3
+        "0 usual\n0 stop 3\n\
+         ~0 pos0 L 9 9\n\
+         ~8~fault script 2 range\n",
+        // voter 12
+        "0 order 0 12\n\
+         ~0 pos0 L 9 9\n\
+         ~8~fault script 1 range\n",
+        // a cycle of 2^20
+        "1048576 usual\n\
+         ~0 pos0 L 9 9\n\
+         ~8~fault script 1 range\n",
+        // a place past 2^43
+        "0 skew 0 8796093022208 8796093022209\n\
+         ~0 pos0 L 9 9\n\
+         ~8~fault script 1 range\n",
+        // a line of 193 bytes
+        "0 usual                                                                                                                                                                                          \n0 run 9\n\
+         ~0 pos0 L 9 9\n\
+         ~8~fault script 1 verb\n",
+        // range before order
+        "5 usual\n4 run 3\n\
+         ~0 pos0 L 9 9\n\
+         ~8~fault script 2 range\n",
+        // number before range
+        "1048576 run x\n\
+         ~0 pos0 L 9 9\n\
+         ~8~fault script 1 number\n",
+        // a cycle that falls
+        "1 usual\n# x\n0 usual\n\
+         ~0 pos0 L 9 9\n\
+         ~8~fault script 3 order\n",
         // both files are faulty: the script is named
         "0 fly\n\
          ~x\n\
@@ -71,113 +87,67 @@ fn scripts_are_judged(rt: HostRuntime) -> Result<(), Fail> {
     Ok(())
 }
 
-/// The first faulty line of a record, after the cycles before it.
+/// The first faulty line of a record and its kind, after the cycles before it.
 #[test]
 fn records_are_judged(rt: HostRuntime) -> Result<(), Fail> {
     let rows = [
-        // record: another wire
-        "\
-         ~0 pos0 L 1 1\n1000 pos3 L 0 0\n\
-         ~7~fault record 2 unbuilt\n",
-        // record: a place too far
-        "\
-         ~0 pos0 L 8796093 -8796093\n1000 pos1 L 8796094 0\n\
-         ~7~fault record 2 unbuilt\n",
-        // record: time falls after five cycles
-        "\
-         ~0 pos0 L 0 0\n1000 pos0 L 0 0\n2000 pos0 L 0 0\n3000 pos0 L 0 0\n4000 pos0 L 0 0\n5000 pos0 L 0 0\n4000 pos0 L 0 0\n\
-         ~7~cycle 0 LLL\nt0 F 0 0 0 0\nt1 F 0 0 0 0\nt2 F 0 0 0 0\ncycle 1 LLL\nt0 F 0 0 0 0\nt1 F 0 0 0 0\nt2 F 0 0 0 0\ncycle 2 LLL\nt0 F 0 0 0 0\nt1 F 0 0 0 0\nt2 F 0 0 0 0\ncycle 3 LLL\nt0 F 0 0 0 0\nt1 F 0 0 0 0\nt2 F 0 0 0 0\ncycle 4 LLL\nt0 F 0 0 0 0\nt1 F 0 0 0 0\nt2 F 0 0 0 0\nfault record 7 unbuilt\n",
-        // record: a cycle of 2^20
-        "\
-         ~0 pos0 L 9 9\n1048576000 pos0 L 0 0\n\
-         ~7~fault record 2 unbuilt\n",
-        // record: a lone CR at the end
-        "\
-         ~0 pos0 L 9 9\n1000 pos0 L 9 9\r\
-         ~7~fault record 2 unbuilt\n",
-        // record: sixteen digits of a time
-        "\
-         ~0000000000001000 pos0 L 1 1\n\
-         ~7~fault record 1 unbuilt\n",
-        // record: a time below zero
-        "\
-         ~-1 pos0 L 0 0\n\
-         ~7~fault record 1 unbuilt\n",
-        // record: no time
-        "\
-         ~ pos0 L 0 0\n\
-         ~7~fault record 1 unbuilt\n",
-        // record: another form, of the same cycle as the line before
-        "\
-         ~0 pos0 L 0 0\n1000 pos0 L 0 0\n1000 pos0 M 0 0\n\
-         ~7~cycle 0 LLL\nt0 F 0 0 0 0\nt1 F 0 0 0 0\nt2 F 0 0 0 0\nfault record 3 unbuilt\n",
-        // record: no east
-        "\
-         ~0 pos0 L 0\n\
-         ~7~fault record 1 unbuilt\n",
-        // record: more parts
-        "\
-         ~0 pos0 L 0 0 0\n\
-         ~7~fault record 1 unbuilt\n",
-        // record: a minus alone
-        "\
-         ~0 pos0 L - 0\n\
-         ~7~fault record 1 unbuilt\n",
-        // record: nineteen digits
-        "\
-         ~0 pos0 L 0000000000000001000 0\n\
-         ~7~fault record 1 unbuilt\n",
-        // record: two carriage returns, and empty lines that are counted
-        "\
-         ~\n\n0 pos0 L 1 2\n\n0 pos0 L 1 2\r\r\n\
-         ~7~fault record 5 unbuilt\n",
-        // record: a sentence
-        "\
-         ~0 gyro0 $HEHDT,90.0,T*16\n\
-         ~7~fault record 1 unbuilt\n",
-    ];
-    for row in rows {
-        plays(&rt, rt.alloc(), row)?;
-    }
-    Ok(())
-}
-
-/// Readings, and cycles without any.
-#[test]
-fn readings_are_fused(rt: HostRuntime) -> Result<(), Fail> {
-    let rows = [
-        // empty frames before, between and an empty line
-        "2 run 0\n\
-         ~2000 pos0 L 100 200\n\n5999 pos2 L 100 200\n\
-         ~0~cycle 0 LLL\nt0 F 0 0 0 0\nt1 F 0 0 0 0\nt2 F 0 0 0 0\ncycle 1 LLL\nt0 F 0 0 0 0\nt1 F 0 0 0 0\nt2 F 0 0 0 0\ncycle 2 LLL\nt0 H 0 - - -\nt1 H 0 - - -\nt2 H 0 - - -\ncycle 3 LLL\nt0 H 0 -6836 - -\nt1 H 0 -13672 - -\nt2 H 0 0 - -\ncycle 4 LLL\nt0 H 0 -6836 - -\nt1 H 0 -13672 - -\nt2 H 0 0 - -\ncycle 5 LLL\nt0 H 0 -6836 - -\nt1 H 0 -13672 - -\nt2 H 0 0 - -\nend 6\n",
-        // far places saturate the demand; the last reading of a cycle counts
-        "\
-         ~0 pos0 L 8796093 -8796093\n999 pos0 L 8796093 -8796093\n1000 pos0 L 0 0\n1999 pos0 L -8796093 8796093\n2500 pos0 L 0 0\n\
-         ~0~cycle 0 LLL\nt0 F 0 0 0 0\nt1 F 0 0 0 0\nt2 F 0 0 0 0\ncycle 1 LLL\nt0 F -50000000 -50000000 -50000000 -50000000\nt1 F 30000000 30000000 30000000 30000000\nt2 F 0 0 0 0\ncycle 2 LLL\nt0 F 33032912 33032912 33032912 33032912\nt1 F -30000000 -30000000 -30000000 -30000000\nt2 F 0 0 0 0\nend 3\n",
-        // three references: the middle
-        "\
-         ~0 pos0 L 5000 1000\n0 pos1 L 4000 -9000\n1 pos2 L -600 2000\n1000 pos0 L 7 7\n2000 pos1 L 7 7\n\
-         ~0~cycle 0 LLL\nt0 F 0 0 0 0\nt1 F 0 0 0 0\nt2 F 0 0 0 0\ncycle 1 LLL\nt0 F -273439 -273439 -273439 -273439\nt1 F -68360 -68360 -68360 -68360\nt2 F 0 0 0 0\ncycle 2 LLL\nt0 F -252628 -252628 -252628 -252628\nt1 F -63515 -63515 -63515 -63515\nt2 F 0 0 0 0\nend 3\n",
-        // the mean of two, rounded down
-        "\
-         ~0 pos1 L -5 -1\n0 pos2 L 2 0\n1000 pos1 L 0 0\n2000 pos0 L 0 0\n\
-         ~0~cycle 0 LLL\nt0 F 0 0 0 0\nt1 F 0 0 0 0\nt2 F 0 0 0 0\ncycle 1 LLL\nt0 F 103 103 103 103\nt1 F 34 34 34 34\nt2 F 0 0 0 0\ncycle 2 LLL\nt0 F 96 96 96 96\nt1 F 32 32 32 32\nt2 F 0 0 0 0\nend 3\n",
-        // references 0 and 2
-        "\
-         ~0 pos0 L 7 1\n0 pos2 L -100 2\n1000 pos0 L 0 0\n\
-         ~0~cycle 0 LLL\nt0 F 0 0 0 0\nt1 F 0 0 0 0\nt2 F 0 0 0 0\ncycle 1 LLL\nt0 F 3179 3179 3179 3179\nt1 F -103 -103 -103 -103\nt2 F 0 0 0 0\nend 2\n",
-        // one reference alone
-        "\
-         ~0 pos2 L -2000 3000\n1000 pos2 L -2000 3000\n2000 pos2 L -2000 3000\n\
-         ~0~cycle 0 LLL\nt0 F 0 0 0 0\nt1 F 0 0 0 0\nt2 F 0 0 0 0\ncycle 1 LLL\nt0 F 136720 136720 136720 136720\nt1 F -205080 -205080 -205080 -205080\nt2 F 0 0 0 0\ncycle 2 LLL\nt0 F 262796 262796 262796 262796\nt1 F -394192 -394192 -394192 -394192\nt2 F 0 0 0 0\nend 3\n",
-        // a time that stays, and fifteen digits of one
-        "\
-         ~7 pos0 L 1000 1000\n7 pos0 L 2000 2000\n000000000001000 pos0 L 0 0\n\
-         ~0~cycle 0 LLL\nt0 F 0 0 0 0\nt1 F 0 0 0 0\nt2 F 0 0 0 0\ncycle 1 LLL\nt0 F -136720 -136720 -136720 -136720\nt1 F -136720 -136720 -136720 -136720\nt2 F 0 0 0 0\nend 2\n",
-        // carriage returns before line feeds, and eighteen digits
-        "\
-         ~0 pos0 L 000000000000001000 -0\r\n\r\n1000 pos0 L 0 0\r\n\
-         ~0~cycle 0 LLL\nt0 F 0 0 0 0\nt1 F 0 0 0 0\nt2 F 0 0 0 0\ncycle 1 LLL\nt0 F -68360 -68360 -68360 -68360\nt1 F 0 0 0 0\nt2 F 0 0 0 0\nend 2\n",
+        // long
+        "~0 pos0 L 9 9\n0 pos1 L 9 77777777777777777777777777777777777777777777777777777777777777777777777777777777777777777777777777777777777777777777777777777777777777777777777777777777777777777777777777777777777777\n\
+         ~7~fault record 2 long\n",
+        // notime
+        "~0 pos0 L 9 9\n1000 pos0 L 9 9\n pos0 L 9 9\n\
+         ~7~cycle 0 LLL\nt0 F 0 0 0 0\nt1 F 0 0 0 0\nt2 F 0 0 0 0\nfault record 3 notime\n",
+        // badtime, 16 digits
+        "~0 pos0 L 9 9\n0000000000001000 pos0 L 9 9\n\
+         ~7~fault record 2 badtime\n",
+        // badtime, no space
+        "~000000000000000 pos0 L 9 9\n1000\n\
+         ~7~fault record 2 badtime\n",
+        // back after five cycles
+        "~0 pos0 L 0 0\n1000 pos0 L 0 0\n2000 pos0 L 0 0\n3000 pos0 L 0 0\n4000 pos0 L 0 0\n5000 pos0 L 0 0\n4000 pos0 L 0 0\n\
+         ~7~cycle 0 LLL\nt0 F 0 0 0 0\nt1 F 0 0 0 0\nt2 F 0 0 0 0\ncycle 1 LLL\nt0 F 0 0 0 0\nt1 F 0 0 0 0\nt2 F 0 0 0 0\ncycle 2 LLL\nt0 F 0 0 0 0\nt1 F 0 0 0 0\nt2 F 0 0 0 0\ncycle 3 LLL\nt0 F 0 0 0 0\nt1 F 0 0 0 0\nt2 F 0 0 0 0\ncycle 4 LLL\nt0 F 0 0 0 0\nt1 F 0 0 0 0\nt2 F 0 0 0 0\nfault record 7 back 5000 4000\n",
+        // the same without the last line and its line feed
+        "~0 pos0 L 0 0\n1000 pos0 L 0 0\n2000 pos0 L 0 0\n3000 pos0 L 0 0\n4000 pos0 L 0 0\n5000 pos0 L 0 0\
+         ~0~cycle 0 LLL\nt0 F 0 0 0 0\nt1 F 0 0 0 0\nt2 F 0 0 0 0\ncycle 1 LLL\nt0 F 0 0 0 0\nt1 F 0 0 0 0\nt2 F 0 0 0 0\ncycle 2 LLL\nt0 F 0 0 0 0\nt1 F 0 0 0 0\nt2 F 0 0 0 0\ncycle 3 LLL\nt0 F 0 0 0 0\nt1 F 0 0 0 0\nt2 F 0 0 0 0\ncycle 4 LLL\nt0 F 0 0 0 0\nt1 F 0 0 0 0\nt2 F 0 0 0 0\ncycle 5 LLL\nt0 F 0 0 0 0\nt1 F 0 0 0 0\nt2 F 0 0 0 0\nend 6\n",
+        // nowire
+        "~0 pos0 L 9 9\n2500  pos0 L 9 9\n\
+         ~7~fault record 2 nowire\n",
+        // unknown, and a line of the same cycle before it
+        "~0 pos0 L 9 9\n1000 pos0 L 9 9\n1001 pos3 L 0 0\n\
+         ~7~cycle 0 LLL\nt0 F 0 0 0 0\nt1 F 0 0 0 0\nt2 F 0 0 0 0\nfault record 3 unknown\n",
+        // a group that the plant does not have
+        "~0 grp1 G 1\n0 grp2 G 1\n\
+         ~7~fault record 2 unknown\n",
+        // 2^20 cycles
+        "~1048576000 pos0 L 0 0\n\
+         ~10~fault long cycles 1048576\n",
+        // 2^20 cycles on an unknown wire
+        "~0 pos0 L 0 0\n1048576000 pos9 L 0 0\n\
+         ~7~fault record 2 unknown\n",
+        // back before nowire
+        "~5 pos0 L 0 0\n\n4 \n\
+         ~7~fault record 3 back 5 4\n",
+        // 2^20 cycles come before a later faulty line
+        "~0 pos0 L 9 9\n1000 pos0 L 9 9\n1048576000 pos0 L 0 0\n1 \n\
+         ~10~cycle 0 LLL\nt0 F 0 0 0 0\nt1 F 0 0 0 0\nt2 F 0 0 0 0\nfault long cycles 1048576\n",
+        // fifteen digits of a time
+        "~999999999999999 pos0 x\n\
+         ~10~fault long cycles 999999999999\n",
+        // the last cycle that may be, on no wire
+        "~1048575999 \n\
+         ~7~fault record 1 nowire\n",
+        // back within a cycle
+        "~1007 pos0 x\n1006 pos0 x\n\
+         ~7~cycle 0 LLL\nt0 F 0 0 0 0\nt1 F 0 0 0 0\nt2 F 0 0 0 0\nfault record 2 back 1007 1006\n",
+        // two carriage returns, and empty lines that are counted
+        "~\n\r\n0 pos0 L 1 2\n\n\r\r\n\
+         ~7~fault record 5 notime\n",
+        // a time below zero
+        "~-1 pos0 L 0 0\n\
+         ~7~fault record 1 notime\n",
+        // a line of 192 bytes is read
+        "~0 pos0 L 9 9\n0 pos1 L 9 7777777777777777777777777777777777777777777777777777777777777777777777777777777777777777777777777777777777777777777777777777777777777777777777777777777777777777777777777777777777777\r\n1000 pos0 L 0 0\n\
+         ~0~cycle 0 LLL\nt0 F 0 0 0 0\nt1 F 0 0 0 0\nt2 F 0 0 0 0\ncycle 1 LLL\nt0 F -615 -615 -615 -615\nt1 F -615 -615 -615 -615\nt2 F 0 0 0 0\nend 2\n",
     ];
     for row in rows {
         plays(&rt, rt.alloc(), row)?;

@@ -9,12 +9,10 @@ use std::test::Fail;
 fn usual_acts_are_played(rt: HostRuntime) -> Result<(), Fail> {
     let rows = [
         // nothing at all
-        "\
-         ~\
+        "~\
          ~0~end 0\n",
         // constant at 1000 with the usual acts
-        "\
-         ~0 pos0 L 1000 0\n0 pos1 L 1000 0\n0 pos2 L 1000 0\n1000 pos0 L 1000 0\n1000 pos1 L 1000 0\n1000 pos2 L 1000 0\n2000 pos0 L 1000 0\n2000 pos1 L 1000 0\n2000 pos2 L 1000 0\n\
+        "~0 pos0 L 1000 0\n0 pos1 L 1000 0\n0 pos2 L 1000 0\n1000 pos0 L 1000 0\n1000 pos1 L 1000 0\n1000 pos2 L 1000 0\n2000 pos0 L 1000 0\n2000 pos1 L 1000 0\n2000 pos2 L 1000 0\n\
          ~0~cycle 0 LLL\nt0 F 0 0 0 0\nt1 F 0 0 0 0\nt2 F 0 0 0 0\ncycle 1 LLL\nt0 F -68360 -68360 -68360 -68360\nt1 F 0 0 0 0\nt2 F 0 0 0 0\ncycle 2 LLL\nt0 F -131397 -131397 -131397 -131397\nt1 F 0 0 0 0\nt2 F 0 0 0 0\nend 3\n",
         // usual twice: nothing waits, and the orders are repeated
         "1 usual\n1 usual\n\

@@ -21,5 +21,9 @@ returns-clause-ok g c =
     let read : IfSome files (λ told. IsSomeAnd (text_named told names.record_name) (λ text. front_read file ≡ front_of record_limit text)) =
     subst (λ (f : Option Files). IfSome f (λ told. IsSomeAnd (text_named told names.record_name) (λ text. front_read file ≡ front_of record_limit text)))
     c.in_ok-script.ensures.files c.in_ok-record.ensures.ok in
-    subst (λ (q : Plant). IfSome files (λ told. asked words told ≡ Ok (play_of q script (front_read file)))) (sym c.p0.ensures)
+    subst (λ (q : Plant). IfSome files (λ told. asked words told ≡ Ok (play_of q script (front_read file)))) (sym c.built_in.ensures.value)
     (asked_ok files words names script (front_read file) named c.in_ok-script.ensures.ok read)
+
+pub returns-clause-player : goal.returns-clause-player
+returns-clause-player g c =
+    c.player_of.ensures c.built_in.result c.in_ok-script.script (c.in_ok-world.ensures.plant ∙ sym c.built_in.ensures.value) c.in_ok-world.ensures.represents
