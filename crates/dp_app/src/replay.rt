@@ -1,9 +1,11 @@
 //! A replay: the blocks of a record's cycles, and the last line.
-ghost use Rattle.std.specs.Prelude.{◌≡◌, ◌≢◌, ◌⊎◌, ◌<◌, ◌≤◌, ◌^◌, [], List, ℕ, IfOk, OnOk, OnErr, None, false, length};
+ghost use Rattle.std.specs.Prelude.{◌≡◌, ◌≢◌, ◌⊎◌, ◌<◌, ◌≤◌, ◌^◌, ◌∷◌, ◌++◌, [], List, ℕ, IfOk, OnOk, OnErr, None, false, length};
 ghost use Rattle.std.specs.Io.KnownBytes.{Appends};
 ghost use Rattle.dp_shell.specs.Faults.{HasWriteCause, Rose};
 ghost use Rattle.dp_shell.specs.Taken.{AppendsFront, TakesParts};
-ghost use Rattle.dp_frame.specs.Feeds.{is_closed};
+ghost use Rattle.dp_frame.specs.Feeds.{answer_to, given, is_closed};
+ghost use Rattle.dp_plant.specs.declared.frames.Frame.{Frame};
+ghost use Rattle.dp_app.specs.Heard.{fault_told};
 ghost use Rattle.dp_frame.specs.Cycles.{frames_so_far, record_frames};
 ghost use Rattle.dp_frame.specs.Record.{all_lines, ended_lines, first_refusal};
 ghost use Rattle.dp_frame.specs.Represents.{IsOpen, Represents, settings_of};
@@ -11,7 +13,7 @@ ghost use Rattle.dp_app.specs.FaultLines.{fault_line, fault_status};
 ghost use Rattle.dp_app.specs.Fronts.{front_read};
 ghost use Rattle.dp_app.specs.Outcome.{IsOfRecord, IsPlain, end_line, last_line, last_status, play_of, played_out, record_fault};
 ghost use Rattle.dp_app.specs.Readable.{IsReadable};
-ghost use Rattle.dp_app.specs.Playing.{HasPlayed, IsPlaying, text_first, text_left};
+ghost use Rattle.dp_app.specs.Playing.{HasPlayed, IsPlaying, text_first, text_left, text_then};
 
 use crate::Status;
 use crate::fault::{Fault, LINE};
@@ -23,6 +25,42 @@ use dp_script::Script;
 use dp_shell::{Sink, Trouble, Whole, write_all};
 use dp_text::{append, append_decimal};
 use dp_trig::Trig;
+
+/// Feeds a byte of a record, plays the cycles that come to their end with it, and answers the fault that it brings, if any.
+///
+/// Most bytes bring nothing, and are done with at once.
+fn play_byte<K: Sink>(
+    player: &mut Player,
+    out: &mut K,
+    plant: &Plant,
+    script: &Script,
+    lines: &mut Lines,
+    byte: u8,
+) -> Result<Option<Fault>, Trouble>
+    requires playing { IsPlaying plant.now script.now player.old }
+    requires next { lines.old.book.kept.cycle ≡ player.old.count }
+    requires settings { lines.old.book.settings ≡ settings_of plant.now }
+    requires open { IsOpen lines.old }
+    requires few { lines.old.bytes < 2 ^ 40 }
+    ensures fault { (text : List ℕ) → Represents lines.old text → IfOk result (λ fault. fault ≡ fault_told (answer_to (settings_of plant.now) text byte)) }
+    ensures played { (text : List ℕ) → Represents lines.old text → (fs : List Frame) → HasPlayed plant.now script.now player.old fs
+        → OnOk result (HasPlayed plant.now script.now player.new (fs ++ given (answer_to (settings_of plant.now) text byte))) }
+    ensures ok { (text : List ℕ) → Represents lines.old text → (fs : List Frame) → HasPlayed plant.now script.now player.old fs
+        → OnOk result (Appends (K.taken out.old) (K.taken out.new) (text_then plant.now script.now fs (given (answer_to (settings_of plant.now) text byte)))) }
+    ensures err { (text : List ℕ) → Represents lines.old text → (fs : List Frame) → HasPlayed plant.now script.now player.old fs
+        → OnErr result (AppendsFront (K.taken out.old) (K.taken out.new) (text_then plant.now script.now fs (given (answer_to (settings_of plant.now) text byte)))) }
+    ensures cause { HasWriteCause (K.faults out.old) (K.faults out.new) result }
+    ensures represents { (text : List ℕ) → Represents lines.old text → Represents lines.new (text ++ byte ∷ []) }
+    ensures next { OnOk result (lines.new.book.kept.cycle ≡ player.new.count) }
+    ensures playing { IsPlaying plant.now script.now player.new }
+    ensures settings { lines.new.book.settings ≡ settings_of plant.now }
+    ensures open_still { IsOpen lines.new }
+{
+    match lines.feed(byte) {
+        Feed::More => Ok(None),
+        feed => player.hear(out, plant, script, &feed),
+    }
+}
 
 /// Plays the cycles that come to their end within a text, and answers the first fault in it, if any.
 fn play_text<K: Sink>(
@@ -49,8 +87,7 @@ fn play_text<K: Sink>(
     ensures settings { lines.new.book.settings ≡ settings_of plant.now }
 {
     for byte in text {
-        let feed = lines.feed(*byte);
-        let fault = player.hear(out, plant, script, &feed)?;
+        let fault = play_byte(player, out, plant, script, lines, *byte)?;
         if fault.is_some() {
             return Ok(fault);
         }

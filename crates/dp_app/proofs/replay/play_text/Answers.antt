@@ -1,4 +1,4 @@
-use Rattle.std.proofs.Common.{◌≡◌, ◌+◌, ◌∷◌, ◌++◌, [], ℕ, List, None, false, take, drop, get_or, ap, subst, sym, ◌∙◌, arith, rules, length-append}
+use Rattle.std.proofs.Common.{◌≡◌, ◌+◌, ◌∷◌, ◌++◌, [], ℕ, List, None, false, take, drop, get_or, refl, ap, subst, sym, ◌∙◌, arith, rules}
 use Rattle.std.specs.Io.KnownBytes.{Appends}
 use Rattle.std.proofs.lemmas.List.{take_more, take-append-drop}
 use Rattle.dp_plant.specs.declared.frames.Frame.{Frame}
@@ -7,11 +7,10 @@ use Rattle.dp_frame.specs.Feeds.{answer_to, given}
 use Rattle.dp_frame.specs.Record.{ended_lines, first_refusal}
 use Rattle.dp_frame.specs.Represents.{settings_of}
 use Rattle.dp_frame.proofs.CycleSteps.{nothing_over}
-use Rattle.dp_app.specs.Heard.{fault_told}
 use Rattle.dp_app.specs.Outcome.{record_fault}
 use Rattle.dp_app.specs.Playing.{HasPlayed, text_first}
 use Rattle.dp_app.proofs.Playing.{first_front, first_next, first_none}
-use Rattle.dp_app.proofs.Reading.{fault_lasts, heard_fault, next_is, no_lines, no_refusal, so_far_grows, so_far_next}
+use Rattle.dp_app.proofs.Reading.{fault_lasts, heard_fault, no_lines, no_refusal, so_far_grows, so_far_next}
 use Rattle.dp_app.proofs.replay.play_text.Goals as goal
 
 pub loop-byte-init : goal.loop-byte-init
@@ -30,10 +29,8 @@ loop-byte-init g c =
       no_less = omega arith;
     }
 
-pub hear-requires-clause-next : goal.hear-requires-clause-next
-hear-requires-clause-next g c =
-    let closes = rw c.loop-byte.invariant.cycle at c.feed-feed.ensures.closes in
-    next_is _ c.loop-byte.player.count c.feed-feed.result closes c.feed-feed.ensures.range
+pub play_byte-requires-clause-playing : goal.play_byte-requires-clause-playing
+play_byte-requires-clause-playing g c = (frames_so_far (settings_of c.args.plant.now) (ended_lines (take c.loop-byte.byte-index c.args.text.now)), c.loop-byte.invariant.played)
 
 pub returns-in_err-fault-clause-err : goal.returns-in_err-fault-clause-err
 returns-in_err-fault-clause-err g c =
@@ -45,16 +42,16 @@ returns-in_err-fault-clause-err g c =
     let t = take i xs in
     let b = get_or xs i 0 in
     let inv = c.loop-byte.invariant in
-    let answered : c.feed-feed.result ≡ answer_to x t b = rw inv.settings at (c.feed-feed.ensures.answer t inv.represents) in
-    let grown = so_far_next x c.requires.cycle t b c.feed-feed.result answered in
+    let a = answer_to x t b in
+    let grown = so_far_next x c.requires.cycle t b a refl in
     let rest = so_far_grows x c.requires.cycle (t ++ b ∷ []) (drop (i + 1) xs) in
     let longer : take (i + 1) xs ≡ t ++ b ∷ [] = take_more xs i 0 c.loop-byte-test.true in
     let whole : (t ++ b ∷ []) ++ drop (i + 1) xs ≡ xs = ap (λ (l : List ℕ). l ++ drop (i + 1) xs) (sym longer) ∙ take-append-drop (i + 1) xs in
-    let all : (frames_so_far x (ended_lines t) ++ given c.feed-feed.result) ++ rest.0 ≡ frames_so_far x (ended_lines xs) =
+    let all : (frames_so_far x (ended_lines t) ++ given a) ++ rest.0 ≡ frames_so_far x (ended_lines xs) =
     ap (λ (l : List Frame). l ++ rest.0) grown ∙ rest.1 ∙ ap (λ (l : List ℕ). frames_so_far x (ended_lines l)) whole in
-    let stopped = first_front p s (g.K.Sink.taken c.args.out.now) (g.K.Sink.taken c.loop-byte.out) (g.K.Sink.taken c.hear.new.out)
-    (frames_so_far x (ended_lines t)) (given c.feed-feed.result) rest.0 (frames_so_far x (ended_lines xs)) all inv.text
-    (c.in_err-fault.ensures.err (frames_so_far x (ended_lines t)) inv.played) in
+    let stopped = first_front p s (g.K.Sink.taken c.args.out.now) (g.K.Sink.taken c.loop-byte.out) (g.K.Sink.taken c.play_byte.new.out)
+    (frames_so_far x (ended_lines t)) (given a) rest.0 (frames_so_far x (ended_lines xs)) all inv.text
+    (c.in_err-fault.ensures.err t inv.represents (frames_so_far x (ended_lines t)) inv.played) in
     search (rules, stopped)
 
 pub returns-then-is_some-clause-fault : goal.returns-then-is_some-clause-fault
@@ -66,9 +63,9 @@ returns-then-is_some-clause-fault g c =
     let t = take i xs in
     let b = get_or xs i 0 in
     let inv = c.loop-byte.invariant in
-    let answered : c.feed-feed.result ≡ answer_to x t b = rw inv.settings at (c.feed-feed.ensures.answer t inv.represents) in
+    let a = answer_to x t b in
     let heard : c.in_ok-fault.fault ≡ record_fault (first_refusal x (ended_lines (t ++ b ∷ []))) false =
-    c.in_ok-fault.ensures.fault ∙ ap fault_told answered ∙ heard_fault x _ _ in
+    c.in_ok-fault.ensures.fault t inv.represents ∙ heard_fault x _ _ in
     let longer : take (i + 1) xs ≡ t ++ b ∷ [] = take_more xs i 0 c.loop-byte-test.true in
     let whole : (t ++ b ∷ []) ++ drop (i + 1) xs ≡ xs = ap (λ (l : List ℕ). l ++ drop (i + 1) xs) (sym longer) ∙ take-append-drop (i + 1) xs in
     let last = fault_lasts x c.requires.cycle (t ++ b ∷ []) (drop (i + 1) xs) c.in_ok-fault.fault heard (sym c.if-is_some.ensures) in
@@ -84,15 +81,15 @@ returns-then-is_some-clause-played g c =
     let t = take i xs in
     let b = get_or xs i 0 in
     let inv = c.loop-byte.invariant in
-    let answered : c.feed-feed.result ≡ answer_to x t b = rw inv.settings at (c.feed-feed.ensures.answer t inv.represents) in
+    let a = answer_to x t b in
     let heard : c.in_ok-fault.fault ≡ record_fault (first_refusal x (ended_lines (t ++ b ∷ []))) false =
-    c.in_ok-fault.ensures.fault ∙ ap fault_told answered ∙ heard_fault x _ _ in
+    c.in_ok-fault.ensures.fault t inv.represents ∙ heard_fault x _ _ in
     let longer : take (i + 1) xs ≡ t ++ b ∷ [] = take_more xs i 0 c.loop-byte-test.true in
     let whole : (t ++ b ∷ []) ++ drop (i + 1) xs ≡ xs = ap (λ (l : List ℕ). l ++ drop (i + 1) xs) (sym longer) ∙ take-append-drop (i + 1) xs in
     let last = fault_lasts x c.requires.cycle (t ++ b ∷ []) (drop (i + 1) xs) c.in_ok-fault.fault heard (sym c.if-is_some.ensures) in
-    let grown : frames_so_far x (ended_lines t) ++ given c.feed-feed.result ≡ frames_so_far x (ended_lines xs) =
-    so_far_next x c.requires.cycle t b c.feed-feed.result answered ∙ sym last.1 ∙ ap (λ (l : List ℕ). frames_so_far x (ended_lines l)) whole in
-    subst (λ (l : List Frame). HasPlayed p s c.hear.new.self l) grown (c.in_ok-fault.ensures.played (frames_so_far x (ended_lines t)) inv.played)
+    let grown : frames_so_far x (ended_lines t) ++ given a ≡ frames_so_far x (ended_lines xs) =
+    so_far_next x c.requires.cycle t b a refl ∙ sym last.1 ∙ ap (λ (l : List ℕ). frames_so_far x (ended_lines l)) whole in
+    subst (λ (l : List Frame). HasPlayed p s c.play_byte.new.player l) grown (c.in_ok-fault.ensures.played t inv.represents (frames_so_far x (ended_lines t)) inv.played)
 
 pub returns-then-is_some-clause-ok : goal.returns-then-is_some-clause-ok
 returns-then-is_some-clause-ok g c =
@@ -104,17 +101,17 @@ returns-then-is_some-clause-ok g c =
     let t = take i xs in
     let b = get_or xs i 0 in
     let inv = c.loop-byte.invariant in
-    let answered : c.feed-feed.result ≡ answer_to x t b = rw inv.settings at (c.feed-feed.ensures.answer t inv.represents) in
+    let a = answer_to x t b in
     let heard : c.in_ok-fault.fault ≡ record_fault (first_refusal x (ended_lines (t ++ b ∷ []))) false =
-    c.in_ok-fault.ensures.fault ∙ ap fault_told answered ∙ heard_fault x _ _ in
+    c.in_ok-fault.ensures.fault t inv.represents ∙ heard_fault x _ _ in
     let longer : take (i + 1) xs ≡ t ++ b ∷ [] = take_more xs i 0 c.loop-byte-test.true in
     let whole : (t ++ b ∷ []) ++ drop (i + 1) xs ≡ xs = ap (λ (l : List ℕ). l ++ drop (i + 1) xs) (sym longer) ∙ take-append-drop (i + 1) xs in
     let last = fault_lasts x c.requires.cycle (t ++ b ∷ []) (drop (i + 1) xs) c.in_ok-fault.fault heard (sym c.if-is_some.ensures) in
-    let grown : frames_so_far x (ended_lines t) ++ given c.feed-feed.result ≡ frames_so_far x (ended_lines xs) =
-    so_far_next x c.requires.cycle t b c.feed-feed.result answered ∙ sym last.1 ∙ ap (λ (l : List ℕ). frames_so_far x (ended_lines l)) whole in
-    subst (λ (l : List Frame). Appends (g.K.Sink.taken c.args.out.now) (g.K.Sink.taken c.hear.new.out) (text_first p s l)) grown
-    (first_next p s (g.K.Sink.taken c.args.out.now) (g.K.Sink.taken c.loop-byte.out) (g.K.Sink.taken c.hear.new.out) (frames_so_far x (ended_lines t)) (given c.feed-feed.result)
-    inv.text (c.in_ok-fault.ensures.ok (frames_so_far x (ended_lines t)) inv.played))
+    let grown : frames_so_far x (ended_lines t) ++ given a ≡ frames_so_far x (ended_lines xs) =
+    so_far_next x c.requires.cycle t b a refl ∙ sym last.1 ∙ ap (λ (l : List ℕ). frames_so_far x (ended_lines l)) whole in
+    subst (λ (l : List Frame). Appends (g.K.Sink.taken c.args.out.now) (g.K.Sink.taken c.play_byte.new.out) (text_first p s l)) grown
+    (first_next p s (g.K.Sink.taken c.args.out.now) (g.K.Sink.taken c.loop-byte.out) (g.K.Sink.taken c.play_byte.new.out) (frames_so_far x (ended_lines t)) (given a)
+    inv.text (c.in_ok-fault.ensures.ok t inv.represents (frames_so_far x (ended_lines t)) inv.played))
 
 pub loop-byte-preserved : goal.loop-byte-preserved
 loop-byte-preserved g c =
@@ -126,22 +123,23 @@ loop-byte-preserved g c =
     let t = take i xs in
     let b = get_or xs i 0 in
     let inv = c.loop-byte.invariant in
-    let answered : c.feed-feed.result ≡ answer_to x t b = rw inv.settings at (c.feed-feed.ensures.answer t inv.represents) in
+    let a = answer_to x t b in
     let longer : take (i + 1) xs ≡ t ++ b ∷ [] = take_more xs i 0 c.loop-byte-test.true in
-    let grown : frames_so_far x (ended_lines t) ++ given c.feed-feed.result ≡ frames_so_far x (ended_lines (take (i + 1) xs)) =
-    so_far_next x c.requires.cycle t b c.feed-feed.result answered ∙ ap (λ (l : List ℕ). frames_so_far x (ended_lines l)) (sym longer) in
-    let heard : fault_told c.feed-feed.result ≡ record_fault (first_refusal x (ended_lines (t ++ b ∷ []))) false = ap fault_told answered ∙ heard_fault x _ _ in
+    let grown : frames_so_far x (ended_lines t) ++ given a ≡ frames_so_far x (ended_lines (take (i + 1) xs)) =
+    so_far_next x c.requires.cycle t b a refl ∙ ap (λ (l : List ℕ). frames_so_far x (ended_lines l)) (sym longer) in
+    let heard : c.in_ok-fault.fault ≡ record_fault (first_refusal x (ended_lines (t ++ b ∷ []))) false =
+    c.in_ok-fault.ensures.fault t inv.represents ∙ heard_fault x _ _ in
     let none : c.in_ok-fault.fault ≡ None = search rules in
-    let played = c.in_ok-fault.ensures.played (frames_so_far x (ended_lines t)) inv.played in
+    let played = c.in_ok-fault.ensures.played t inv.represents (frames_so_far x (ended_lines t)) inv.played in
     record {
-      represents = rw longer (c.feed-feed.ensures.represents t inv.represents);
-      open_still = c.feed-feed.ensures.open;
-      settings = c.feed-feed.ensures.settings ∙ inv.settings;
-      sound = ap (λ (l : List ℕ). first_refusal x (ended_lines l)) longer ∙ no_refusal _ (sym heard ∙ sym c.in_ok-fault.ensures.fault ∙ none);
-      cycle = omega (arith, c.feed-feed.ensures.next, inv.cycle, inv.played.count, played.count, length-append (frames_so_far x (ended_lines t)) (given c.feed-feed.result));
-      played = subst (λ (l : List Frame). HasPlayed p s c.hear.new.self l) grown played;
-      text = subst (λ (l : List Frame). Appends (g.K.Sink.taken c.args.out.now) (g.K.Sink.taken c.hear.new.out) (text_first p s l)) grown
-          (first_next p s (g.K.Sink.taken c.args.out.now) (g.K.Sink.taken c.loop-byte.out) (g.K.Sink.taken c.hear.new.out) (frames_so_far x (ended_lines t)) (given c.feed-feed.result)
-          inv.text (c.in_ok-fault.ensures.ok (frames_so_far x (ended_lines t)) inv.played));
+      represents = rw longer (c.play_byte.ensures.represents t inv.represents);
+      open_still = c.play_byte.ensures.open_still;
+      settings = c.play_byte.ensures.settings;
+      sound = ap (λ (l : List ℕ). first_refusal x (ended_lines l)) longer ∙ no_refusal _ (sym heard ∙ none);
+      cycle = c.in_ok-fault.ensures.next;
+      played = subst (λ (l : List Frame). HasPlayed p s c.play_byte.new.player l) grown played;
+      text = subst (λ (l : List Frame). Appends (g.K.Sink.taken c.args.out.now) (g.K.Sink.taken c.play_byte.new.out) (text_first p s l)) grown
+          (first_next p s (g.K.Sink.taken c.args.out.now) (g.K.Sink.taken c.loop-byte.out) (g.K.Sink.taken c.play_byte.new.out) (frames_so_far x (ended_lines t)) (given a)
+          inv.text (c.in_ok-fault.ensures.ok t inv.represents (frames_so_far x (ended_lines t)) inv.played));
       no_less = omega (arith, inv.no_less, c.in_ok-fault.ensures.cause.later);
     }
