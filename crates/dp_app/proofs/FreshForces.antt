@@ -68,10 +68,6 @@ ballot_at n cycle k h b e =
     listed n k h b (slice_get (range_with_len 0 n) k) refl (sym (slice_get-map (λ j. ballot j h) (range_with_len 0 n) k) ∙ e)
 
 module _ (law : FreshIsReference) (p : Plant) (script : List Scripted) (fs : List Frame) where
-  -- the events up to the end of cycle n
-  upto : ℕ → List Event
-  upto n = played p script (take (n + 1) fs) []
-
   cycle_is : (n : ℕ) (f : Frame) → slice_get fs n ≡ Some f → cycled p script f (played p script (take n fs) []) ≡ played p script (take (n + 1) fs) []
   cycle_is n f at = sym (ap (λ (l : List Frame). played p script l []) (take_next fs n f at) ∙ played_next p script (take n fs) f [])
 

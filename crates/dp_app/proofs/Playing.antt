@@ -50,10 +50,6 @@ module _ (p : Plant) (script : List Scripted) where
   unfolding blocks
   text_one fs f = sym (append-nil (block_text (block_of p f.cycle (cycled p script f (played p script fs [])))))
 
-  pub text_none : (fs : List Frame) → [] ≡ text_then p script fs []
-  unfolding blocks
-  text_none fs = refl
-
   pub first_more : (fs gs : List Frame) → text_first p script (fs ++ gs) ≡ text_first p script fs ++ text_then p script fs gs
   first_more fs gs = blocks_text fs gs []
 
@@ -85,9 +81,6 @@ module _ (p : Plant) (script : List Scripted) where
       (record { done = []; taken = appends_none a; whole = sym (then_more fs gs later) ∙ ap (text_then p script fs) is }) y
 
 -- ---- a frame and the empty ones that follow it
-
-pub given_none : (f : Frame) → given (Closed f 0) ≡ f ∷ []
-given_none f = refl
 
 pub given_next : (f : Frame) (k : ℕ) → given (Closed f (k + 1)) ≡ given (Closed f k) ++ no_frame (f.cycle + 1 + k) ∷ []
 given_next f k =

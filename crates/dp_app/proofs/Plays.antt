@@ -71,19 +71,3 @@ module _ (p : Plant) (script : List Scripted) where
   unfolding blocks played
   blocks_append [] gs es = refl
   blocks_append (f ∷ fs) gs es = ap (λ l. block_of p f.cycle (cycled p script f es) ∷ l) (blocks_append fs gs (cycled p script f es))
-
-  blocks_one : (f : Frame) (es : List Event) → blocks p script (f ∷ []) es ≡ block_of p f.cycle (cycled p script f es) ∷ []
-  unfolding blocks
-  blocks_one f es = refl
-
-  -- the text of one more block
-  pub text_next : (fs : List Frame) (f : Frame) (es : List Event)
-      → text_of (blocks p script (fs ++ f ∷ []) es) ≡ text_of (blocks p script fs es) ++ block_text (block_of p f.cycle (cycled p script f (played p script fs es)))
-  text_next fs f es =
-      ap text_of (blocks_append fs (f ∷ []) es ∙ ap (λ l. blocks p script fs es ++ l) (blocks_one f (played p script fs es)))
-      ∙ flat_map-append block_text (blocks p script fs es) (block_of p f.cycle (cycled p script f (played p script fs es)) ∷ [])
-      ∙ ap (λ l. text_of (blocks p script fs es) ++ l) (append-nil (block_text (block_of p f.cycle (cycled p script f (played p script fs es)))))
-
-  -- the text of the first blocks is a front of that of all
-  pub text_front : (fs gs : List Frame) (es : List Event) → text_of (blocks p script (fs ++ gs) es) ≡ text_of (blocks p script fs es) ++ text_of (blocks p script gs (played p script fs es))
-  text_front fs gs es = ap text_of (blocks_append fs gs es) ∙ flat_map-append block_text (blocks p script fs es) (blocks p script gs (played p script fs es))

@@ -155,9 +155,6 @@ of_record (Some r) = by_kind r
     by_kind (Faulty line kind) = (λ e. absurd cc, λ e. absurd cc)
     by_kind (TooMany line cycle) = (λ e. absurd cc, λ e. absurd cc)
 
-pub long_of_record : IsOfRecord (Some LongRecord)
-long_of_record = (λ e. absurd cc, λ e. absurd cc)
-
 pub ok_of_record : {E : Type 0} (r : Result (Option Fault) E) (o : Option Refusal) → IfOk r (λ x. x ≡ record_fault o false) → IfOk r IsOfRecord
 ok_of_record (Ok x) o is = subst IsOfRecord (sym is) (of_record o)
 ok_of_record (Err e) o is = tt
