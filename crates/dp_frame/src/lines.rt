@@ -106,7 +106,7 @@ impl Lines {
     /// - [`Feed::Closed`]: the line that ended is good, isn't empty, and is of a later cycle than the frame that was kept. That frame is
     ///   given, with the number of cycles between, which have no lines. Before the first line the kept frame is that of cycle 0.
     /// - [`Feed::Fault`] and [`Feed::TooMany`]: the line that ended is the first that can't be taken. Every later call answers the same.
-    /// - [`Feed::More`]: neither.
+    /// - [`Feed::More`]: neither. Most bytes end no line, and are done with at once.
     ///
     /// It may be called until `finish` is, for at most 2^40 bytes.
     pub fn feed(&mut self, byte: u8) -> Feed
@@ -124,15 +124,34 @@ impl Lines {
         ensures settings { self.new.book.settings ≡ self.old.book.settings }
         ensures open { IsOpen self.new }
     {
-        self.bytes += 1;
         if let Some(refusal) = self.book.refusal {
+            self.bytes += 1;
             return refusal.told();
         }
-        if byte != LINE_FEED {
-            self.front_len += 1;
-            keep(&mut self.front, byte);
-            return Feed::More;
+        if byte == LINE_FEED {
+            return self.end_line();
         }
+        self.bytes += 1;
+        self.front_len += 1;
+        keep(&mut self.front, byte);
+        Feed::More
+    }
+
+    /// Judges the line that a line feed ends, and answers what it brings to an end.
+    fn end_line(&mut self) -> Feed
+        requires open { IsOpen self.old }
+        requires few { self.old.bytes < 2 ^ 40 }
+        requires going { self.old.book.refusal ≡ None }
+        ensures represents { (text : List ℕ) → Represents self.old text → Represents self.new (text ++ 10 ∷ []) }
+        ensures answer { (text : List ℕ) → Represents self.old text → result ≡ answer_to self.old.book.settings text 10 }
+        ensures range { IsFeedInRange self.old.book.settings.groups result }
+        ensures closes { ClosesCycle self.old.book.kept.cycle result }
+        ensures next { self.new.book.kept.cycle ≡ self.old.book.kept.cycle + length (given result) }
+        ensures bytes { self.new.bytes ≡ self.old.bytes + 1 }
+        ensures settings { self.new.book.settings ≡ self.old.book.settings }
+        ensures open_still { IsOpen self.new }
+    {
+        self.bytes += 1;
         let answer = self.book.line(whole(self.front.as_slice(), self.front_len));
         self.front.clear();
         self.front_len = 0;
