@@ -66,17 +66,17 @@ module _ (s : Settings) (text : List ℕ) (some : 0 < s.cycle_ms) where
   given_open q is = ap (frames_given s text) (sym is)
 
   -- the frames given so far are the first ones of the record
-  front_done : (rest : List Frame) × (frames_given s text Done ++ rest ≡ record_frames s (all_lines text))
+  prefix_done : (rest : List Frame) × (frames_given s text Done ++ rest ≡ record_frames s (all_lines text))
   unfolding frames_given
-  front_done = ([], append-nil (record_frames s (all_lines text)))
+  prefix_done = ([], append-nil (record_frames s (all_lines text)))
 
-  front_last : (rest : List Frame) × (frames_given s text Last ++ rest ≡ record_frames s (all_lines text))
+  prefix_last : (rest : List Frame) × (frames_given s text Last ++ rest ≡ record_frames s (all_lines text))
   unfolding phase_after
-  front_last = (given (ending s text Last) ++ front_done.0, sym (append_assoc (frames_given s text Last) (given (ending s text Last)) front_done.0) ∙ ap (λ (l : List Frame). l ++ front_done.0) (sym (finish-gives s text Last some)) ∙ front_done.1)
+  prefix_last = (given (ending s text Last) ++ prefix_done.0, sym (append_assoc (frames_given s text Last) (given (ending s text Last)) prefix_done.0) ∙ ap (λ (l : List Frame). l ++ prefix_done.0) (sym (finish-gives s text Last some)) ∙ prefix_done.1)
 
-  front_open : (rest : List Frame) × (frames_given s text Open ++ rest ≡ record_frames s (all_lines text))
+  prefix_open : (rest : List Frame) × (frames_given s text Open ++ rest ≡ record_frames s (all_lines text))
   unfolding phase_after
-  front_open = by_more (is_more (answer s (ended_lines text) (all_lines text))) refl
+  prefix_open = by_more (is_more (answer s (ended_lines text) (all_lines text))) refl
     where
       after : (q : Phase) (rest : List Frame) → phase_after s text Open ≡ q → frames_given s text q ++ rest ≡ record_frames s (all_lines text)
           → (rest : List Frame) × (frames_given s text Open ++ rest ≡ record_frames s (all_lines text))
@@ -87,18 +87,18 @@ module _ (s : Settings) (text : List ℕ) (some : 0 < s.cycle_ms) where
       )
 
       by_more : (b : Bool) → is_more (answer s (ended_lines text) (all_lines text)) ≡ b → (rest : List Frame) × (frames_given s text Open ++ rest ≡ record_frames s (all_lines text))
-      by_more true e = after Done front_done.0 (rw e refl) front_done.1
-      by_more false e = after Last front_last.0 (rw e refl) front_last.1
+      by_more true e = after Done prefix_done.0 (rw e refl) prefix_done.1
+      by_more false e = after Last prefix_last.0 (rw e refl) prefix_last.1
 
-  pub given_front : (q : Phase) → (rest : List Frame) × (frames_given s text q ++ rest ≡ record_frames s (all_lines text))
-  given_front Open = front_open
-  given_front Last = front_last
-  given_front Done = front_done
+  pub given_prefix : (q : Phase) → (rest : List Frame) × (frames_given s text q ++ rest ≡ record_frames s (all_lines text))
+  given_prefix Open = prefix_open
+  given_prefix Last = prefix_last
+  given_prefix Done = prefix_done
 
   -- with what a call brings
-  pub front_after : (q : Phase) (x : Feed) → x ≡ ending s text q → (rest : List Frame) × ((frames_given s text q ++ given x) ++ rest ≡ record_frames s (all_lines text))
-  front_after q x is =
-      let f = given_front (phase_after s text q) in
+  pub prefix_after : (q : Phase) (x : Feed) → x ≡ ending s text q → (rest : List Frame) × ((frames_given s text q ++ given x) ++ rest ≡ record_frames s (all_lines text))
+  prefix_after q x is =
+      let f = given_prefix (phase_after s text q) in
       (f.0, ap (λ (l : List Frame). l ++ f.0) (given_next q (phase_after s text q) x is refl) ∙ f.1)
 
 pub left_is : (p : Plant) (script : List Scripted) (text : List ℕ) (all : List Frame)

@@ -16,8 +16,8 @@ use Rattle.dp_frame.specs.Feeds.{given}
 use Rattle.dp_frame.specs.Frames.{no_frame}
 use Rattle.dp_report.specs.Block.{block_text}
 use Rattle.dp_script.specs.declared.event.Event.{Event as Scripted}
-use Rattle.dp_shell.specs.Taken.{AppendsFront}
-use Rattle.dp_shell.proofs.Taken.{appends_none, appends_then, before_front}
+use Rattle.dp_shell.specs.Taken.{AppendsPrefix}
+use Rattle.dp_shell.proofs.Taken.{appends_none, appends_then, before_prefix}
 use Rattle.dp_app.specs.declared.player.Player.{Player}
 use Rattle.dp_app.specs.Acting.{cycled, played}
 use Rattle.dp_app.specs.Blocks.{block_of, blocks, text_of}
@@ -65,19 +65,19 @@ module _ (p : Plant) (script : List Scripted) where
   takes_more a b c fs gs hs x y =
       subst (λ (l : List ℕ). Appends a c l) (sym (then_more fs gs hs)) (appends_then a b c (text_then p script fs gs) (text_then p script (fs ++ gs) hs) x y)
 
-  pub takes_front : (a b c : Option (List ℕ)) (fs gs hs later all : List Frame) → (gs ++ hs) ++ later ≡ all → Appends a b (text_then p script fs gs)
-      → AppendsFront b c (text_then p script (fs ++ gs) hs) → AppendsFront a c (text_then p script fs all)
-  takes_front a b c fs gs hs later all is x y =
+  pub takes_prefix : (a b c : Option (List ℕ)) (fs gs hs later all : List Frame) → (gs ++ hs) ++ later ≡ all → Appends a b (text_then p script fs gs)
+      → AppendsPrefix b c (text_then p script (fs ++ gs) hs) → AppendsPrefix a c (text_then p script fs all)
+  takes_prefix a b c fs gs hs later all is x y =
       let whole : text_then p script fs gs ++ (text_then p script (fs ++ gs) hs ++ text_then p script (fs ++ (gs ++ hs)) later) ≡ text_then p script fs all =
       sym (append_assoc (text_then p script fs gs) (text_then p script (fs ++ gs) hs) (text_then p script (fs ++ (gs ++ hs)) later))
       ∙ ap (λ (l : List ℕ). l ++ text_then p script (fs ++ (gs ++ hs)) later) (sym (then_more fs gs hs))
       ∙ sym (then_more fs (gs ++ hs) later) ∙ ap (text_then p script fs) is in
-      before_front a b c (text_then p script (fs ++ gs) hs) (text_then p script (fs ++ (gs ++ hs)) later) (text_then p script fs all)
+      before_prefix a b c (text_then p script (fs ++ gs) hs) (text_then p script (fs ++ (gs ++ hs)) later) (text_then p script fs all)
       (record { done = text_then p script fs gs; taken = x; whole = whole }) y
 
-  pub takes_first : (a c : Option (List ℕ)) (fs gs later all : List Frame) → gs ++ later ≡ all → AppendsFront a c (text_then p script fs gs) → AppendsFront a c (text_then p script fs all)
+  pub takes_first : (a c : Option (List ℕ)) (fs gs later all : List Frame) → gs ++ later ≡ all → AppendsPrefix a c (text_then p script fs gs) → AppendsPrefix a c (text_then p script fs all)
   takes_first a c fs gs later all is y =
-      before_front a a c (text_then p script fs gs) (text_then p script (fs ++ gs) later) (text_then p script fs all)
+      before_prefix a a c (text_then p script fs gs) (text_then p script (fs ++ gs) later) (text_then p script fs all)
       (record { done = []; taken = appends_none a; whole = sym (then_more fs gs later) ∙ ap (text_then p script fs) is }) y
 
 -- ---- a frame and the empty ones that follow it
@@ -126,16 +126,16 @@ module _ (p : Plant) (script : List Scripted) where
   pub first_next : (a b c : Option (List ℕ)) (fs gs : List Frame) → Appends a b (text_first p script fs) → Appends b c (text_then p script fs gs) → Appends a c (text_first p script (fs ++ gs))
   first_next a b c fs gs x y = subst (λ (l : List ℕ). Appends a c l) (sym (first_more p script fs gs)) (appends_then a b c (text_first p script fs) (text_then p script fs gs) x y)
 
-  pub first_front : (a b c : Option (List ℕ)) (fs gs later all : List Frame) → (fs ++ gs) ++ later ≡ all → Appends a b (text_first p script fs)
-      → AppendsFront b c (text_then p script fs gs) → AppendsFront a c (text_first p script all)
-  first_front a b c fs gs later all is x y =
+  pub first_prefix : (a b c : Option (List ℕ)) (fs gs later all : List Frame) → (fs ++ gs) ++ later ≡ all → Appends a b (text_first p script fs)
+      → AppendsPrefix b c (text_then p script fs gs) → AppendsPrefix a c (text_first p script all)
+  first_prefix a b c fs gs later all is x y =
       let whole : text_first p script fs ++ (text_then p script fs gs ++ text_then p script (fs ++ gs) later) ≡ text_first p script all =
       sym (append_assoc (text_first p script fs) (text_then p script fs gs) (text_then p script (fs ++ gs) later))
       ∙ ap (λ (l : List ℕ). l ++ text_then p script (fs ++ gs) later) (sym (first_more p script fs gs))
       ∙ sym (first_more p script (fs ++ gs) later) ∙ ap (text_first p script) is in
-      before_front a b c (text_then p script fs gs) (text_then p script (fs ++ gs) later) (text_first p script all) (record { done = text_first p script fs; taken = x; whole = whole }) y
+      before_prefix a b c (text_then p script fs gs) (text_then p script (fs ++ gs) later) (text_first p script all) (record { done = text_first p script fs; taken = x; whole = whole }) y
 
-  pub first_front_whole : (a c : Option (List ℕ)) (fs later all : List Frame) → fs ++ later ≡ all → AppendsFront a c (text_first p script fs) → AppendsFront a c (text_first p script all)
-  first_front_whole a c fs later all is y =
+  pub first_prefix_whole : (a c : Option (List ℕ)) (fs later all : List Frame) → fs ++ later ≡ all → AppendsPrefix a c (text_first p script fs) → AppendsPrefix a c (text_first p script all)
+  first_prefix_whole a c fs later all is y =
       let whole : text_first p script fs ++ text_then p script fs later ≡ text_first p script all = sym (first_more p script fs later) ∙ ap (text_first p script) is in
-      before_front a a c (text_first p script fs) (text_then p script fs later) (text_first p script all) (record { done = []; taken = appends_none a; whole = whole }) y
+      before_prefix a a c (text_first p script fs) (text_then p script fs later) (text_first p script all) (record { done = []; taken = appends_none a; whole = whole }) y

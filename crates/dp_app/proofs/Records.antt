@@ -14,14 +14,14 @@ use Rattle.dp_frame.specs.Record.{all_lines, ended_lines, first_refusal}
 use Rattle.dp_frame.specs.Represents.{settings_of}
 use Rattle.dp_frame.proofs.Endings.{refusal-ends}
 use Rattle.dp_script.specs.declared.event.Event.{Event as Scripted}
-use Rattle.dp_shell.specs.Taken.{AppendsFront}
-use Rattle.dp_shell.proofs.Taken.{appends_then, before_front}
+use Rattle.dp_shell.specs.Taken.{AppendsPrefix}
+use Rattle.dp_shell.proofs.Taken.{appends_then, before_prefix}
 use Rattle.dp_app.specs.declared.fault.Fault.{Fault}
 use Rattle.dp_app.specs.declared.fault.Fault.TheVariants.{LongRecord}
-use Rattle.dp_app.specs.Outcome.{Front, IsOfRecord, frames_played, lines_of, play_of, record_fault, refused_by}
+use Rattle.dp_app.specs.Outcome.{Prefix, IsOfRecord, frames_played, lines_of, play_of, record_fault, refused_by}
 use Rattle.dp_app.specs.Playing.{text_first, text_left}
-use Rattle.dp_app.proofs.Finishing.{given_front, given_open, left_is}
-use Rattle.dp_app.proofs.Playing.{first_front_whole, first_more}
+use Rattle.dp_app.proofs.Finishing.{given_prefix, given_open, left_is}
+use Rattle.dp_app.proofs.Playing.{first_prefix_whole, first_more}
 use Rattle.dp_app.proofs.Reading.{a_refusal}
 
 -- where a line can't be taken the cycles before that of the last good one are all
@@ -41,7 +41,7 @@ fault_true : (o : Option Refusal) (r : Refusal) → o ≡ Some r → record_faul
 fault_true (Some x) r e = refl
 fault_true None r e = absurd cc
 
-module _ (p : Plant) (script : List Scripted) (f : Front) (some : 0 < (settings_of p).cycle_ms) where
+module _ (p : Plant) (script : List Scripted) (f : Prefix) (some : 0 < (settings_of p).cycle_ms) where
   fault_is : (play_of p script f).fault ≡ record_fault (first_refusal (settings_of p) (lines_of f)) f.goes_on
   unfolding play_of
   fault_is = refl
@@ -108,21 +108,21 @@ module _ (p : Plant) (script : List Scripted) (f : Front) (some : 0 < (settings_
   long_record cut none = ap (λ (o : Option Refusal). record_fault o true) (sym none) ∙ cut_fault cut
 
   -- the cycles that are over with the ended lines are the first ones
-  front_of_play : (b : Bool) → f.goes_on ≡ b → (rest : List Frame) × (frames_so_far (settings_of p) (ended_lines f.text) ++ rest ≡ (play_of p script f).frames)
-  front_of_play true cut = ([], append-nil _ ∙ cut_frames cut)
-  front_of_play false whole =
-      let g = given_front (settings_of p) f.text some Open in
+  prefix_of_play : (b : Bool) → f.goes_on ≡ b → (rest : List Frame) × (frames_so_far (settings_of p) (ended_lines f.text) ++ rest ≡ (play_of p script f).frames)
+  prefix_of_play true cut = ([], append-nil _ ∙ cut_frames cut)
+  prefix_of_play false whole =
+      let g = given_prefix (settings_of p) f.text some Open in
       (g.0, ap (λ (l : List Frame). l ++ g.0) (given_open (settings_of p) f.text some Open refl) ∙ g.1 ∙ whole_frames whole)
 
-  pub front_taken : (a c : Option (List ℕ)) → AppendsFront a c (text_first p script (frames_so_far (settings_of p) (ended_lines f.text))) → AppendsFront a c (text_first p script (play_of p script f).frames)
-  front_taken a c y =
-      let rest = front_of_play f.goes_on refl in
-      first_front_whole p script a c (frames_so_far (settings_of p) (ended_lines f.text)) rest.0 (play_of p script f).frames rest.1 y
+  pub prefix_taken : (a c : Option (List ℕ)) → AppendsPrefix a c (text_first p script (frames_so_far (settings_of p) (ended_lines f.text))) → AppendsPrefix a c (text_first p script (play_of p script f).frames)
+  prefix_taken a c y =
+      let rest = prefix_of_play f.goes_on refl in
+      first_prefix_whole p script a c (frames_so_far (settings_of p) (ended_lines f.text)) rest.0 (play_of p script f).frames rest.1 y
 
   -- with what the end brings it is all
   left_whole : frames_so_far (settings_of p) (ended_lines f.text) ++ drop (length (frames_so_far (settings_of p) (ended_lines f.text))) (record_frames (settings_of p) (all_lines f.text)) ≡ record_frames (settings_of p) (all_lines f.text)
   left_whole =
-      let g = given_front (settings_of p) f.text some Open in
+      let g = given_prefix (settings_of p) f.text some Open in
       let so_far = frames_so_far (settings_of p) (ended_lines f.text) in
       let split : so_far ++ g.0 ≡ record_frames (settings_of p) (all_lines f.text) = ap (λ (l : List Frame). l ++ g.0) (given_open (settings_of p) f.text some Open refl) ∙ g.1 in
       ap (λ (l : List Frame). so_far ++ l) (ap (drop (length so_far)) (sym split) ∙ drop-append_seam so_far g.0) ∙ split
@@ -138,14 +138,14 @@ module _ (p : Plant) (script : List Scripted) (f : Front) (some : 0 < (settings_
       subst (λ (l : List ℕ). Appends a c l) (left_text ∙ ap (text_first p script) (whole_frames whole))
       (appends_then a b c (text_first p script (frames_so_far (settings_of p) (ended_lines f.text))) (text_left p script f.text) x y)
 
-  pub left_front : (a b c : Option (List ℕ)) → f.goes_on ≡ false → Appends a b (text_first p script (frames_so_far (settings_of p) (ended_lines f.text)))
-      → AppendsFront b c (text_left p script f.text) → AppendsFront a c (text_first p script (play_of p script f).frames)
-  left_front a b c whole x y =
+  pub left_prefix : (a b c : Option (List ℕ)) → f.goes_on ≡ false → Appends a b (text_first p script (frames_so_far (settings_of p) (ended_lines f.text)))
+      → AppendsPrefix b c (text_left p script f.text) → AppendsPrefix a c (text_first p script (play_of p script f).frames)
+  left_prefix a b c whole x y =
       let first = text_first p script (frames_so_far (settings_of p) (ended_lines f.text)) in
       let left = text_left p script f.text in
       let is : first ++ (left ++ []) ≡ text_first p script (play_of p script f).frames =
       ap (λ (l : List ℕ). first ++ l) (append-nil left) ∙ left_text ∙ ap (text_first p script) (whole_frames whole) in
-      before_front a b c left [] (text_first p script (play_of p script f).frames) (record { done = first; taken = x; whole = is }) y
+      before_prefix a b c left [] (text_first p script (play_of p script f).frames) (record { done = first; taken = x; whole = is }) y
 
 pub of_record : (o : Option Refusal) → IsOfRecord (record_fault o false)
 of_record None = tt

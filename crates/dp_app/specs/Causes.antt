@@ -5,7 +5,7 @@ use Rattle.dp_shell.specs.Faults.{Rose}
 use Rattle.dp_shell.specs.Texts.{Files, text_named}
 use Rattle.dp_app.specs.declared.fault.Fault.TheVariants.{ReadScript, ReadRecord}
 use Rattle.dp_app.specs.FaultLines.{fault_line}
-use Rattle.dp_app.specs.Outcome.{front_of, script_fault_of, script_limit}
+use Rattle.dp_app.specs.Outcome.{prefix_of, script_fault_of, script_limit}
 use Rattle.dp_app.specs.Words.{Names}
 
 -- the number of a name's faults rose
@@ -14,7 +14,7 @@ RoseAt before now name = Rose (before name) (now name)
 
 -- the script was there and has no fault
 abbrev pub HasPassed : Files → List ℕ → Type 0
-HasPassed files name = IsSomeAnd (text_named files name) (λ text. script_fault_of (front_of script_limit text) ≡ None)
+HasPassed files name = IsSomeAnd (text_named files name) (λ text. script_fault_of (prefix_of script_limit text) ≡ None)
 
 -- a read of one of the two files failed, and the last line says which; the script, which comes first, had passed where it was the record
 abbrev pub IsReadFault : Option Files → Names → (List ℕ → ℕ) → (List ℕ → ℕ) → Option (List ℕ) → Option (List ℕ) → Type 0

@@ -8,7 +8,7 @@ pub mod Heard
 pub mod Readable
 pub mod Playing
 pub mod Outcome
-pub mod Fronts
+pub mod Prefixes
 pub mod Causes
 pub mod Headline
 pub mod Written

@@ -69,15 +69,15 @@ ended (Err fault) = refused fault
 -- ---- the record
 
 -- as much of a file as its limit lets be read, and whether there is more
-pub record Front : Type 0 where
+pub record Prefix : Type 0 where
   pub text : List ℕ
   pub goes_on : Bool
 
-abbrev pub front_of : ℕ → List ℕ → Front
-front_of limit text = record { text = take limit text; goes_on = nat_lt limit (length text) }
+abbrev pub prefix_of : ℕ → List ℕ → Prefix
+prefix_of limit text = record { text = take limit text; goes_on = nat_lt limit (length text) }
 
 -- its lines, newest first; where it goes on, what stands after its last line feed isn't a line yet
-abbrev pub lines_of : Front → List (List ℕ)
+abbrev pub lines_of : Prefix → List (List ℕ)
 lines_of f = if f.goes_on then ended_lines f.text else all_lines f.text
 
 -- the fault that the first line which can't be taken gives
@@ -96,7 +96,7 @@ abbrev pub frames_played : Settings → List (List ℕ) → Option Fault → Lis
 frames_played s lines fault = if is_some fault then frames_so_far s lines else record_frames s lines
 
 -- what a record plays on a plant
-unfoldable pub play_of : Plant → List Scripted → Front → Play
+unfoldable pub play_of : Plant → List Scripted → Prefix → Play
 play_of p script f =
     let s = settings_of p in
     let fault = record_fault (first_refusal s (lines_of f)) f.goes_on in
@@ -108,7 +108,7 @@ record_limit = 68719476736
 
 -- by the record's text, or without one
 abbrev pub with_record : List Scripted → Option (List ℕ) → Result Play Fault
-with_record script (Some text) = Ok (play_of built_in_plant script (front_of record_limit text))
+with_record script (Some text) = Ok (play_of built_in_plant script (prefix_of record_limit text))
 with_record script None = Err ReadRecord
 
 -- ---- the script
@@ -119,11 +119,11 @@ line_fault (Some script_fault.Memory) = None
 line_fault None = None
 
 -- the fault of a script: its length comes before its lines
-unfoldable pub script_fault_of : Front → Option Fault
+unfoldable pub script_fault_of : Prefix → Option Fault
 script_fault_of f = if f.goes_on then Some LongScript else line_fault (fault_in f.text)
 
 -- a script's acts in order, each with its cycle
-abbrev pub script_of : Front → List Scripted
+abbrev pub script_of : Prefix → List Scripted
 script_of f = events_by (text_lines false f.text)
 
 -- the most bytes of a script, 2^24
@@ -136,7 +136,7 @@ refused_or None later = later
 
 -- by the script's text, or without one; the script comes before the record
 abbrev pub with_script : Option (List ℕ) → Option (List ℕ) → Result Play Fault
-with_script (Some text) record_text = refused_or (script_fault_of (front_of script_limit text)) (with_record (script_of (front_of script_limit text)) record_text)
+with_script (Some text) record_text = refused_or (script_fault_of (prefix_of script_limit text)) (with_record (script_of (prefix_of script_limit text)) record_text)
 with_script None record_text = Err ReadScript
 
 -- ---- all of it

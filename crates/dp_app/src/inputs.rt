@@ -7,8 +7,8 @@ ghost use Rattle.dp_core.specs.Represents.{Represents};
 ghost use Rattle.dp_plant.specs.BuiltInPlant.{built_in_plant};
 ghost use Rattle.dp_app.specs.Causes.{HasPassed, OthersOfTwoStay, RoseAt};
 ghost use Rattle.dp_app.specs.FaultLines.{fault_status};
-ghost use Rattle.dp_app.specs.Fronts.{front_read};
-ghost use Rattle.dp_app.specs.Outcome.{IsPlain, asked, front_of, play_of, record_limit, script_fault_of, script_limit, script_of};
+ghost use Rattle.dp_app.specs.Prefixes.{prefix_read};
+ghost use Rattle.dp_app.specs.Outcome.{IsPlain, asked, prefix_of, play_of, record_limit, script_fault_of, script_limit, script_of};
 ghost use Rattle.dp_app.specs.Playing.{HasPlayed};
 ghost use Rattle.dp_app.specs.Readable.{IsReadable};
 ghost use Rattle.dp_app.specs.Words.{names_in};
@@ -24,7 +24,7 @@ use dp_core::World;
 use dp_core::built_in::built_in_plant_is_operable;
 use dp_plant::{Plant, p0};
 use dp_script::{Script, ScriptFault};
-use dp_shell::{ReadTrouble, Shelf, Whole, read_whole};
+use dp_shell::{ReadTrouble, Shelf, FilePart, read_whole};
 use std::alloc::Global;
 
 /// The most bytes of a script.
@@ -39,14 +39,14 @@ pub struct Inputs {
     pub plant: Plant,
     pub player: Player,
     pub script: Script,
-    pub record: Whole,
+    pub record: FilePart,
 }
 
 /// The script of a text, unless its length or a line is refused.
 #[tactic(auto, unfolding(crate::specs::Outcome::script_fault_of))]
 fn judged_script(alloc: Global, file: &Whole) -> Result<Script, Fault>
-    ensures ok { IfOk result (λ script. (script_fault_of (front_read file.now) ≡ None) × (script ≡ script_of (front_read file.now))) }
-    ensures err { IfErr result (λ fault. fault ≢ Fault.Memory → script_fault_of (front_read file.now) ≡ Some fault) }
+    ensures ok { IfOk result (λ script. (script_fault_of (prefix_read file.now) ≡ None) × (script ≡ script_of (prefix_read file.now))) }
+    ensures err { IfErr result (λ fault. fault ≢ Fault.Memory → script_fault_of (prefix_read file.now) ≡ Some fault) }
     ensures told { IfErr result (λ fault. (fault ≢ Fault.Usage) × (fault ≢ Fault.ReadScript) × (fault ≢ Fault.ReadRecord)) }
 {
     if file.is_cut {
@@ -62,9 +62,9 @@ fn judged_script(alloc: Global, file: &Whole) -> Result<Script, Fault>
 /// Reads the script, and refuses it where its length or a line is refused.
 fn read_script<F: Shelf>(alloc: Global, shelf: &mut F, name: &str) -> Result<Script, Fault>
     ensures ok { IfOk result (λ script. IfSome (F.files shelf.old) (λ files. IsSomeAnd (text_named files name.now) (λ text.
-        (script_fault_of (front_of script_limit text) ≡ None) × (script ≡ script_of (front_of script_limit text))))) }
+        (script_fault_of (prefix_of script_limit text) ≡ None) × (script ≡ script_of (prefix_of script_limit text))))) }
     ensures err { IfErr result (λ fault. IsPlain (fault_status fault) → IfSome (F.files shelf.old) (λ files. IsSomeAnd (text_named files name.now) (λ text.
-        script_fault_of (front_of script_limit text) ≡ Some fault))) }
+        script_fault_of (prefix_of script_limit text) ≡ Some fault))) }
     ensures failed { IsErrOf result Fault.ReadScript → RoseAt (F.faults shelf.old) (F.faults shelf.new) name.now }
     ensures other { IfErr result (λ fault. (fault ≢ Fault.Usage) × (fault ≢ Fault.ReadRecord)) }
     ensures files { F.files shelf.new ≡ F.files shelf.old }
@@ -80,8 +80,8 @@ fn read_script<F: Shelf>(alloc: Global, shelf: &mut F, name: &str) -> Result<Scr
 }
 
 /// Reads the record up to its limit.
-fn read_record<F: Shelf>(alloc: Global, shelf: &mut F, name: &str) -> Result<Whole, Fault>
-    ensures ok { IfOk result (λ file. IfSome (F.files shelf.old) (λ files. IsSomeAnd (text_named files name.now) (λ text. front_read file ≡ front_of record_limit text))) }
+fn read_record<F: Shelf>(alloc: Global, shelf: &mut F, name: &str) -> Result<FilePart, Fault>
+    ensures ok { IfOk result (λ file. IfSome (F.files shelf.old) (λ files. IsSomeAnd (text_named files name.now) (λ text. prefix_read file ≡ prefix_of record_limit text))) }
     ensures size { IfOk result (λ file. length file.text.items ≤ 2 ^ 36) }
     ensures failed { IsErrOf result Fault.ReadRecord → RoseAt (F.faults shelf.old) (F.faults shelf.new) name.now }
     ensures other { IfErr result (λ fault. (fault ≡ Fault.ReadRecord) ⊎ (fault ≡ Fault.Memory)) }
@@ -130,7 +130,7 @@ fn built_in() -> Plant
 
 /// Reads all that a replay is given, the script before the record, or says why it is refused.
 pub fn gather<F: Shelf>(alloc: Global, words: &[&str], shelf: &mut F) -> Result<Inputs, Fault>
-    ensures ok { IfOk result (λ i. IfSome (F.files shelf.old) (λ files. asked (texts_of words.now) files ≡ Ok (play_of i.plant i.script (front_read i.record)))) }
+    ensures ok { IfOk result (λ i. IfSome (F.files shelf.old) (λ files. asked (texts_of words.now) files ≡ Ok (play_of i.plant i.script (prefix_read i.record)))) }
     ensures readable { IfOk result (λ i. IsReadable i.plant) }
     ensures player { IfOk result (λ i. HasPlayed i.plant i.script i.player []) }
     ensures size { IfOk result (λ i. length i.record.text.items ≤ 2 ^ 36) }

@@ -2,7 +2,7 @@
 ghost use Rattle.std.specs.Prelude.{◌≡◌, ◌+◌, ◌<◌, ◌^◌, ◌∷◌, [], ◌++◌, List, IfOk, OnErr, OnOk, ⊤};
 ghost use Rattle.std.specs.Io.KnownBytes.{Appends};
 ghost use Rattle.dp_shell.specs.Faults.{HasWriteCause};
-ghost use Rattle.dp_shell.specs.Taken.{AppendsFront};
+ghost use Rattle.dp_shell.specs.Taken.{AppendsPrefix};
 ghost use Rattle.dp_frame.specs.Feeds.{given};
 ghost use Rattle.dp_plant.specs.FrameRanges.{IsFrameWithin};
 ghost use Rattle.dp_plant.specs.declared.frames.Frame.{Frame};
@@ -44,7 +44,7 @@ impl Player {
         ensures ok { (fs : List Frame) → HasPlayed plant.now script.now self.old fs
             → OnOk result (Appends (K.taken out.old) (K.taken out.new) (text_then plant.now script.now fs (frame.now ∷ []))) }
         ensures err { (fs : List Frame) → HasPlayed plant.now script.now self.old fs
-            → OnErr result (AppendsFront (K.taken out.old) (K.taken out.new) (text_then plant.now script.now fs (frame.now ∷ []))) }
+            → OnErr result (AppendsPrefix (K.taken out.old) (K.taken out.new) (text_then plant.now script.now fs (frame.now ∷ []))) }
         ensures cause { HasWriteCause (K.faults out.old) (K.faults out.new) result }
     {
         cycle(&mut self.world, plant, script, frame, &mut self.block);
@@ -72,7 +72,7 @@ impl Player {
         ensures ok { (fs : List Frame) → HasPlayed plant.now script.now self.old fs
             → OnOk result (Appends (K.taken out.old) (K.taken out.new) (text_then plant.now script.now fs (given (Feed.Closed frame.now empty)))) }
         ensures err { (fs : List Frame) → HasPlayed plant.now script.now self.old fs
-            → OnErr result (AppendsFront (K.taken out.old) (K.taken out.new) (text_then plant.now script.now fs (given (Feed.Closed frame.now empty)))) }
+            → OnErr result (AppendsPrefix (K.taken out.old) (K.taken out.new) (text_then plant.now script.now fs (given (Feed.Closed frame.now empty)))) }
         ensures cause { HasWriteCause (K.faults out.old) (K.faults out.new) result }
     {
         self.show(out, plant, script, frame)?;
@@ -99,7 +99,7 @@ impl Player {
         ensures ok { (fs : List Frame) → HasPlayed plant.now script.now self.old fs
             → OnOk result (Appends (K.taken out.old) (K.taken out.new) (text_then plant.now script.now fs (given feed.now))) }
         ensures err { (fs : List Frame) → HasPlayed plant.now script.now self.old fs
-            → OnErr result (AppendsFront (K.taken out.old) (K.taken out.new) (text_then plant.now script.now fs (given feed.now))) }
+            → OnErr result (AppendsPrefix (K.taken out.old) (K.taken out.new) (text_then plant.now script.now fs (given feed.now))) }
         ensures cause { HasWriteCause (K.faults out.old) (K.faults out.new) result }
     {
         match *feed {

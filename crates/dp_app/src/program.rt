@@ -37,7 +37,7 @@ pub fn run<F: Shelf, K: Sink>(alloc: Global, words: &[&str], shelf: &mut F, out:
         IsReadFault (F.files shelf.old) names (F.faults shelf.old) (F.faults shelf.new) (K.taken out.old) (K.taken out.new)) }
     ensures write { result ≡ Status.WriteFault → Rose (K.faults out.old) (K.faults out.new) }
 
-    // Whatever the status, a front of the outcome's text was taken, and then a front of a fault line that was being written.
+    // Whatever the status, a prefix of the outcome's text was taken, and then a prefix of a fault line that was being written.
     ensures parts { IfSome (F.files shelf.old) (λ files. TakesOutcome (K.taken out.old) (K.taken out.new) (outcome_of (texts_of words.now) files).text) }
 
     // Where no fault is counted, the status is told by words and files, unless memory is wanted.

@@ -2,7 +2,7 @@
 ghost use Rattle.std.specs.Prelude.{◌≡◌, ◌≢◌, ◌⊎◌, ◌<◌, ◌≤◌, ◌^◌, ◌∷◌, ◌++◌, [], List, ℕ, IfOk, OnOk, OnErr, None, false, length};
 ghost use Rattle.std.specs.Io.KnownBytes.{Appends};
 ghost use Rattle.dp_shell.specs.Faults.{HasWriteCause, Rose};
-ghost use Rattle.dp_shell.specs.Taken.{AppendsFront, TakesParts};
+ghost use Rattle.dp_shell.specs.Taken.{AppendsPrefix, TakesParts};
 ghost use Rattle.dp_frame.specs.Feeds.{answer_to, given, is_closed};
 ghost use Rattle.dp_plant.specs.declared.frames.Frame.{Frame};
 ghost use Rattle.dp_app.specs.Heard.{fault_told};
@@ -10,7 +10,7 @@ ghost use Rattle.dp_frame.specs.Cycles.{frames_so_far, record_frames};
 ghost use Rattle.dp_frame.specs.Record.{all_lines, ended_lines, first_refusal};
 ghost use Rattle.dp_frame.specs.Represents.{IsOpen, Represents, settings_of};
 ghost use Rattle.dp_app.specs.FaultLines.{fault_line, fault_status};
-ghost use Rattle.dp_app.specs.Fronts.{front_read};
+ghost use Rattle.dp_app.specs.Prefixes.{prefix_read};
 ghost use Rattle.dp_app.specs.Outcome.{IsOfRecord, IsPlain, end_line, last_line, last_status, play_of, played_out, record_fault};
 ghost use Rattle.dp_app.specs.Readable.{IsReadable};
 ghost use Rattle.dp_app.specs.Playing.{HasPlayed, IsPlaying, text_first, text_left, text_then};
@@ -22,7 +22,7 @@ use arrayvec::ArrayVec;
 use dp_frame::{Feed, Lines};
 use dp_plant::Plant;
 use dp_script::Script;
-use dp_shell::{Sink, Trouble, Whole, write_all};
+use dp_shell::{Sink, Trouble, FilePart, write_all};
 use dp_text::{append, append_decimal};
 use dp_trig::Trig;
 
@@ -38,8 +38,8 @@ fn play_byte<K: Sink>(
     byte: u8,
 ) -> Result<Option<Fault>, Trouble>
     requires playing { IsPlaying plant.now script.now player.old }
-    requires next { lines.old.book.kept.cycle ≡ player.old.count }
-    requires settings { lines.old.book.settings ≡ settings_of plant.now }
+    requires next { lines.old.progress.kept.cycle ≡ player.old.count }
+    requires settings { lines.old.progress.settings ≡ settings_of plant.now }
     requires open { IsOpen lines.old }
     requires few { lines.old.bytes < 2 ^ 40 }
     ensures fault { (text : List ℕ) → Represents lines.old text → IfOk result (λ fault. fault ≡ fault_told (answer_to (settings_of plant.now) text byte)) }
@@ -48,12 +48,12 @@ fn play_byte<K: Sink>(
     ensures ok { (text : List ℕ) → Represents lines.old text → (fs : List Frame) → HasPlayed plant.now script.now player.old fs
         → OnOk result (Appends (K.taken out.old) (K.taken out.new) (text_then plant.now script.now fs (given (answer_to (settings_of plant.now) text byte)))) }
     ensures err { (text : List ℕ) → Represents lines.old text → (fs : List Frame) → HasPlayed plant.now script.now player.old fs
-        → OnErr result (AppendsFront (K.taken out.old) (K.taken out.new) (text_then plant.now script.now fs (given (answer_to (settings_of plant.now) text byte)))) }
+        → OnErr result (AppendsPrefix (K.taken out.old) (K.taken out.new) (text_then plant.now script.now fs (given (answer_to (settings_of plant.now) text byte)))) }
     ensures cause { HasWriteCause (K.faults out.old) (K.faults out.new) result }
     ensures represents { (text : List ℕ) → Represents lines.old text → Represents lines.new (text ++ byte ∷ []) }
-    ensures next { OnOk result (lines.new.book.kept.cycle ≡ player.new.count) }
+    ensures next { OnOk result (lines.new.progress.kept.cycle ≡ player.new.count) }
     ensures playing { IsPlaying plant.now script.now player.new }
-    ensures settings { lines.new.book.settings ≡ settings_of plant.now }
+    ensures settings { lines.new.progress.settings ≡ settings_of plant.now }
     ensures open_still { IsOpen lines.new }
 {
     match lines.feed(byte) {
@@ -73,18 +73,18 @@ fn play_text<K: Sink>(
 ) -> Result<Option<Fault>, Trouble>
     requires cycle { 0 < plant.now.cycle_ms }
     requires played { HasPlayed plant.now script.now player.old [] }
-    requires settings { lines.old.book.settings ≡ settings_of plant.now }
+    requires settings { lines.old.progress.settings ≡ settings_of plant.now }
     requires represents { Represents lines.old [] }
     requires open { IsOpen lines.old }
-    requires first { lines.old.book.kept.cycle ≡ 0 }
+    requires first { lines.old.progress.kept.cycle ≡ 0 }
     requires size { length text.now ≤ 2 ^ 36 }
     ensures fault { IfOk result (λ fault. fault ≡ record_fault (first_refusal (settings_of plant.now) (ended_lines text.now)) false) }
     ensures played { OnOk result (HasPlayed plant.now script.now player.new (frames_so_far (settings_of plant.now) (ended_lines text.now))) }
     ensures ok { OnOk result (Appends (K.taken out.old) (K.taken out.new) (text_first plant.now script.now (frames_so_far (settings_of plant.now) (ended_lines text.now)))) }
-    ensures err { OnErr result (AppendsFront (K.taken out.old) (K.taken out.new) (text_first plant.now script.now (frames_so_far (settings_of plant.now) (ended_lines text.now)))) }
+    ensures err { OnErr result (AppendsPrefix (K.taken out.old) (K.taken out.new) (text_first plant.now script.now (frames_so_far (settings_of plant.now) (ended_lines text.now)))) }
     ensures cause { HasWriteCause (K.faults out.old) (K.faults out.new) result }
-    ensures lines { IfOk result (λ fault. fault ≡ None → Represents lines.new text.now × IsOpen lines.new × (lines.new.book.kept.cycle ≡ player.new.count)) }
-    ensures settings { lines.new.book.settings ≡ settings_of plant.now }
+    ensures lines { IfOk result (λ fault. fault ≡ None → Represents lines.new text.now × IsOpen lines.new × (lines.new.progress.kept.cycle ≡ player.new.count)) }
+    ensures settings { lines.new.progress.settings ≡ settings_of plant.now }
 {
     for byte in text {
         let fault = play_byte(player, out, plant, script, lines, *byte)?;
@@ -115,9 +115,9 @@ fn play_end<K: Sink>(
 ) -> Result<Option<Fault>, Trouble>
     requires cycle { 0 < plant.now.cycle_ms }
     requires playing { IsPlaying plant.now script.now player.old }
-    requires settings { lines.old.book.settings ≡ settings_of plant.now }
+    requires settings { lines.old.progress.settings ≡ settings_of plant.now }
     requires open { IsOpen lines.old }
-    requires next { lines.old.book.kept.cycle ≡ player.old.count }
+    requires next { lines.old.progress.kept.cycle ≡ player.old.count }
     ensures fault { (text : List ℕ) → Represents lines.old text
         → IfOk result (λ fault. fault ≡ record_fault (first_refusal (settings_of plant.now) (all_lines text)) false) }
     ensures played { (text : List ℕ) → Represents lines.old text → HasPlayed plant.now script.now player.old (frames_so_far (settings_of plant.now) (ended_lines text))
@@ -125,7 +125,7 @@ fn play_end<K: Sink>(
     ensures ok { (text : List ℕ) → Represents lines.old text → HasPlayed plant.now script.now player.old (frames_so_far (settings_of plant.now) (ended_lines text))
         → OnOk result (Appends (K.taken out.old) (K.taken out.new) (text_left plant.now script.now text)) }
     ensures err { (text : List ℕ) → Represents lines.old text → HasPlayed plant.now script.now player.old (frames_so_far (settings_of plant.now) (ended_lines text))
-        → OnErr result (AppendsFront (K.taken out.old) (K.taken out.new) (text_left plant.now script.now text)) }
+        → OnErr result (AppendsPrefix (K.taken out.old) (K.taken out.new) (text_left plant.now script.now text)) }
     ensures cause { HasWriteCause (K.faults out.old) (K.faults out.new) result }
 {
     loop {
@@ -143,16 +143,16 @@ fn play_record<K: Sink>(
     out: &mut K,
     plant: &Plant,
     script: &Script,
-    file: &Whole,
+    file: &FilePart,
 ) -> Result<Option<Fault>, Trouble>
     requires readable { IsReadable plant.now }
     requires played { HasPlayed plant.now script.now player.old [] }
     requires size { length file.now.text.items ≤ 2 ^ 36 }
-    ensures fault { IfOk result (λ fault. fault ≡ (play_of plant.now script.now (front_read file.now)).fault) }
+    ensures fault { IfOk result (λ fault. fault ≡ (play_of plant.now script.now (prefix_read file.now)).fault) }
     ensures of_record { IfOk result IsOfRecord }
-    ensures played { OnOk result (HasPlayed plant.now script.now player.new (play_of plant.now script.now (front_read file.now)).frames) }
-    ensures ok { OnOk result (Appends (K.taken out.old) (K.taken out.new) (text_first plant.now script.now (play_of plant.now script.now (front_read file.now)).frames)) }
-    ensures err { OnErr result (AppendsFront (K.taken out.old) (K.taken out.new) (text_first plant.now script.now (play_of plant.now script.now (front_read file.now)).frames)) }
+    ensures played { OnOk result (HasPlayed plant.now script.now player.new (play_of plant.now script.now (prefix_read file.now)).frames) }
+    ensures ok { OnOk result (Appends (K.taken out.old) (K.taken out.new) (text_first plant.now script.now (play_of plant.now script.now (prefix_read file.now)).frames)) }
+    ensures err { OnErr result (AppendsPrefix (K.taken out.old) (K.taken out.new) (text_first plant.now script.now (play_of plant.now script.now (prefix_read file.now)).frames)) }
     ensures cause { HasWriteCause (K.faults out.old) (K.faults out.new) result }
 {
     let mut lines = Lines::new(plant, &Trig::new());
@@ -178,11 +178,11 @@ fn end_line(count: u64) -> ArrayVec<u8, LINE>
 }
 
 /// Writes a command's last line, and answers the status that goes with it, or that of a failed write.
-#[tactic(auto, using(dp_shell::proofs::TakenParts::front_whole))]
+#[tactic(auto, using(dp_shell::proofs::TakenParts::prefix_whole))]
 fn end<K: Sink>(out: &mut K, line: &[u8], status: Status) -> Status
     ensures written { result ≡ status → (status ≢ Status.WriteFault) → (status ≢ Status.Memory) → Appends (K.taken out.old) (K.taken out.new) line.now }
     ensures answers { (result ≡ status) ⊎ ((result ≡ Status.WriteFault) × Rose (K.faults out.old) (K.faults out.new)) ⊎ (result ≡ Status.Memory) }
-    ensures front { AppendsFront (K.taken out.old) (K.taken out.new) line.now }
+    ensures prefix { AppendsPrefix (K.taken out.old) (K.taken out.new) line.now }
     ensures later { K.faults out.old ≤ K.faults out.new }
 {
     match write_all(out, line) {
@@ -196,7 +196,7 @@ fn end<K: Sink>(out: &mut K, line: &[u8], status: Status) -> Status
 pub fn announce<K: Sink>(out: &mut K, fault: Fault) -> Status
     ensures written { result ≡ fault_status fault → (result ≢ Status.Memory) → Appends (K.taken out.old) (K.taken out.new) (fault_line fault) }
     ensures answers { (result ≡ fault_status fault) ⊎ ((result ≡ Status.WriteFault) × Rose (K.faults out.old) (K.faults out.new)) ⊎ (result ≡ Status.Memory) }
-    ensures front { AppendsFront (K.taken out.old) (K.taken out.new) (fault_line fault) }
+    ensures prefix { AppendsPrefix (K.taken out.old) (K.taken out.new) (fault_line fault) }
     ensures later { K.faults out.old ≤ K.faults out.new }
 {
     end(out, &fault.line(), fault.status())
@@ -205,7 +205,7 @@ pub fn announce<K: Sink>(out: &mut K, fault: Fault) -> Status
 /// Writes the last line: the number of cycles, or the record's fault.
 fn finish<K: Sink>(out: &mut K, fault: Option<Fault>, count: u64) -> Status
     ensures plain { IsPlain result → (result ≡ last_status fault) × Appends (K.taken out.old) (K.taken out.new) (last_line count fault) }
-    ensures front { AppendsFront (K.taken out.old) (K.taken out.new) (last_line count fault) }
+    ensures prefix { AppendsPrefix (K.taken out.old) (K.taken out.new) (last_line count fault) }
     ensures write { (result ≡ Status.WriteFault) → Rose (K.faults out.old) (K.faults out.new) }
     ensures read { IsOfRecord fault → (result ≢ Status.ReadFault) × (result ≢ Status.Usage) }
 {
@@ -221,14 +221,14 @@ pub fn replay<K: Sink>(
     out: &mut K,
     plant: &Plant,
     script: &Script,
-    file: &Whole,
+    file: &FilePart,
 ) -> Status
     requires readable { IsReadable plant.now }
     requires played { HasPlayed plant.now script.now player.old [] }
     requires size { length file.now.text.items ≤ 2 ^ 36 }
-    ensures plain { IsPlain result → (result ≡ (played_out (play_of plant.now script.now (front_read file.now))).status)
-        × Appends (K.taken out.old) (K.taken out.new) (played_out (play_of plant.now script.now (front_read file.now))).text }
-    ensures parts { TakesParts (K.taken out.old) (K.taken out.new) (played_out (play_of plant.now script.now (front_read file.now))).text (fault_line Fault.Memory) }
+    ensures plain { IsPlain result → (result ≡ (played_out (play_of plant.now script.now (prefix_read file.now))).status)
+        × Appends (K.taken out.old) (K.taken out.new) (played_out (play_of plant.now script.now (prefix_read file.now))).text }
+    ensures parts { TakesParts (K.taken out.old) (K.taken out.new) (played_out (play_of plant.now script.now (prefix_read file.now))).text (fault_line Fault.Memory) }
     ensures write { result ≡ Status.WriteFault → Rose (K.faults out.old) (K.faults out.new) }
     ensures read { (result ≢ Status.ReadFault) × (result ≢ Status.Usage) }
 {

@@ -1,6 +1,6 @@
 -- What is asked of an axis, by the state's parts along it.
 use Rattle.std.proofs.Common.{◌≡◌, List, ℤ, neg_ℤ, ◌-ℤ◌, ◌*ℤ◌, ap, ◌∙◌}
-use Rattle.dp_fixed.specs.Scale.{one}
+use Rattle.dp_fixed.specs.Scale.{full_scale}
 use Rattle.dp_fixed.specs.Order.{clamp_of}
 use Rattle.dp_plant.specs.declared.gains.Gains.{Gains}
 use Rattle.dp_plant.specs.declared.limits.Setpoint.{Setpoint}
@@ -24,9 +24,9 @@ pub sway_is : (g : Gains) (s : Setpoint) (pair : ℤ × ℤ) (wind : List ℤ) (
 unfolding asked_sway
 sway_is g s pair wind x a e v b is p q r = is ∙ asked_along _ _ _ _ e v b _ _ _ p q r
 
-pub asked_is : (kp kd limit e v b w s u t r : ℤ) → s ≡ neg_ℤ (kp *ℤ e) -ℤ (kd *ℤ v) → u ≡ s -ℤ (one *ℤ clamp_of b (neg_ℤ (one *ℤ limit)) (one *ℤ limit))
-    → t ≡ one *ℤ (one *ℤ w) → r ≡ u -ℤ t → r ≡ asked_of kp kd limit e v b w
+pub asked_is : (kp kd limit e v b w s u t r : ℤ) → s ≡ neg_ℤ (kp *ℤ e) -ℤ (kd *ℤ v) → u ≡ s -ℤ (full_scale *ℤ clamp_of b (neg_ℤ (full_scale *ℤ limit)) (full_scale *ℤ limit))
+    → t ≡ full_scale *ℤ (full_scale *ℤ w) → r ≡ u -ℤ t → r ≡ asked_of kp kd limit e v b w
 unfolding asked_of
 asked_is kp kd limit e v b w s u t r spring unbiased wind is =
-    is ∙ ap (λ (z : ℤ). z -ℤ t) (unbiased ∙ ap (λ (z : ℤ). z -ℤ (one *ℤ clamp_of b (neg_ℤ (one *ℤ limit)) (one *ℤ limit))) spring)
-    ∙ ap (λ (z : ℤ). ((neg_ℤ (kp *ℤ e) -ℤ (kd *ℤ v)) -ℤ (one *ℤ clamp_of b (neg_ℤ (one *ℤ limit)) (one *ℤ limit))) -ℤ z) wind
+    is ∙ ap (λ (z : ℤ). z -ℤ t) (unbiased ∙ ap (λ (z : ℤ). z -ℤ (full_scale *ℤ clamp_of b (neg_ℤ (full_scale *ℤ limit)) (full_scale *ℤ limit))) spring)
+    ∙ ap (λ (z : ℤ). ((neg_ℤ (kp *ℤ e) -ℤ (kd *ℤ v)) -ℤ (full_scale *ℤ clamp_of b (neg_ℤ (full_scale *ℤ limit)) (full_scale *ℤ limit))) -ℤ z) wind

@@ -14,7 +14,7 @@ use Rattle.dp_core.specs.Moment.{Moment, is_order, is_wire, saw_taken}
 use Rattle.dp_core.specs.Reference.{IsReferenceForce, issue_over, reference_issue, reference_state}
 use Rattle.dp_core.specs.Step.{step_of}
 use Rattle.dp_core.specs.Trajectory.{last_issue, stepped_issue}
-use Rattle.dp_core.specs.Voting.{Said, agreed, answer, answer_if, ballot, force, given, high_of, is_delivery, is_ready, low_of, said, said_by, said_force, taken, the_ballot, was_heard}
+use Rattle.dp_core.specs.Voting.{Said, agreed, answer, answer_if, ballot, force, given, high_of, is_delivery, is_ready, low_of, said, said_by, said_force, taken, the_ballot, is_delivered}
 use Rattle.dp_core.specs.declared.event.Event.{Event}
 use Rattle.dp_core.specs.declared.event.Event.TheVariants.{Order}
 use Rattle.dp_core.specs.declared.state.State.{State}
@@ -88,13 +88,13 @@ says-some : (p : Plant) (k a : ℕ) (h : List Moment) (e : Event) → (is_order 
 unfolding said_force
 says-some p k a h e o = (let t = (IsTaken-from_order p k a h e o).1.says in rw t)
 
-heard-cases : (k a : ℕ) (m : Moment) (h : List Moment) (w : Bool) → is_wire m.event ≡ w → was_heard k a (m ∷ h) ≡ true → (w ≡ false) × (((is_delivery a k m.event && is_ready (last_issue a h) (heard h) (given k h)) ≡ true) ⊎ (was_heard k a h ≡ true))
-unfolding was_heard
+heard-cases : (k a : ℕ) (m : Moment) (h : List Moment) (w : Bool) → is_wire m.event ≡ w → is_delivered k a (m ∷ h) ≡ true → (w ≡ false) × (((is_delivery a k m.event && is_ready (last_issue a h) (heard h) (given k h)) ≡ true) ⊎ (is_delivered k a h ≡ true))
+unfolding is_delivered
 heard-cases k a m h true e s = let t = rw e at s in cc
-heard-cases k a m h false e s = let t = rw e at s in (refl, or_cases (is_delivery a k m.event && is_ready (last_issue a h) (heard h) (given k h)) (was_heard k a h) t)
+heard-cases k a m h false e s = let t = rw e at s in (refl, or_cases (is_delivery a k m.event && is_ready (last_issue a h) (heard h) (given k h)) (is_delivered k a h) t)
 
-pub heard-taken : (p : Plant) (lim : IsLimited p) (es : List Event) (k a : ℕ) → faulty_in_cycle a (history p es) ≡ false → was_heard k a (history p es) ≡ true → is_some (taken k a (history p es)) ≡ true
-unfolding history was_heard
+pub heard-taken : (p : Plant) (lim : IsLimited p) (es : List Event) (k a : ℕ) → faulty_in_cycle a (history p es) ≡ false → is_delivered k a (history p es) ≡ true → is_some (taken k a (history p es)) ≡ true
+unfolding history is_delivered
 heard-taken p lim [] k a s v = cc
 heard-taken p lim (e ∷ es) k a s v =
     let h = history p es in
@@ -114,13 +114,13 @@ some-value (Some f) e = (f, refl)
 some-value None e = cc
 
 -- the force that was taken of a computer that was heard
-force-heard : (p : Plant) (lim : IsLimited p) (es : List Event) (k a : ℕ) → faulty_in_cycle a (history p es) ≡ false → was_heard k a (history p es) ≡ true → (f : ℤ) × (taken k a (history p es) ≡ Some f) × IsReferenceForce p (frames (history p es)) k f
+force-heard : (p : Plant) (lim : IsLimited p) (es : List Event) (k a : ℕ) → faulty_in_cycle a (history p es) ≡ false → is_delivered k a (history p es) ≡ true → (f : ℤ) × (taken k a (history p es) ≡ Some f) × IsReferenceForce p (frames (history p es)) k f
 force-heard p lim es k a s v =
     let t = some-value (taken k a (history p es)) (heard-taken p lim es k a s v) in
     (t.0, t.1, (sound p es).orders k a t.0 s t.1)
 
 -- two of them
-pub two-heard : (p : Plant) (lim : IsLimited p) (es : List Event) (k a b : ℕ) → faulty_in_cycle a (history p es) ≡ false → faulty_in_cycle b (history p es) ≡ false → was_heard k a (history p es) ≡ true → was_heard k b (history p es) ≡ true → (f : ℤ) × (taken k a (history p es) ≡ Some f) × (taken k b (history p es) ≡ Some f) × IsReferenceForce p (frames (history p es)) k f
+pub two-heard : (p : Plant) (lim : IsLimited p) (es : List Event) (k a b : ℕ) → faulty_in_cycle a (history p es) ≡ false → faulty_in_cycle b (history p es) ≡ false → is_delivered k a (history p es) ≡ true → is_delivered k b (history p es) ≡ true → (f : ℤ) × (taken k a (history p es) ≡ Some f) × (taken k b (history p es) ≡ Some f) × IsReferenceForce p (frames (history p es)) k f
 two-heard p lim es k a b sa sb va vb =
     let x = force-heard p lim es k a sa va in
     let y = force-heard p lim es k b sb vb in
@@ -147,7 +147,7 @@ of_two k a b h f (FirstTwo ea eb) ta tb = inl (subst (λ i. taken k i h ≡ Some
 of_two k a b h f (OuterTwo ea eb) ta tb = inr (inl (subst (λ i. taken k i h ≡ Some f) ea ta, subst (λ i. taken k i h ≡ Some f) eb tb))
 of_two k a b h f (LastTwo ea eb) ta tb = inr (inr (subst (λ i. taken k i h ≡ Some f) ea ta, subst (λ i. taken k i h ≡ Some f) eb tb))
 
-pub heard-fresh : (right : TwoRightAreFresh) (p : Plant) (lim : IsLimited p) (es : List Event) (k a b : ℕ) → a < b → b < 3 → faulty_in_cycle a (history p es) ≡ false → faulty_in_cycle b (history p es) ≡ false → was_heard k a (history p es) ≡ true → was_heard k b (history p es) ≡ true → given k (history p es) ≡ None → (f : ℤ) × (ballot k (history p es) ≡ Fresh f) × IsReferenceForce p (frames (history p es)) k f
+pub heard-fresh : (right : TwoRightAreFresh) (p : Plant) (lim : IsLimited p) (es : List Event) (k a b : ℕ) → a < b → b < 3 → faulty_in_cycle a (history p es) ≡ false → faulty_in_cycle b (history p es) ≡ false → is_delivered k a (history p es) ≡ true → is_delivered k b (history p es) ≡ true → given k (history p es) ≡ None → (f : ℤ) × (ballot k (history p es) ≡ Fresh f) × IsReferenceForce p (frames (history p es)) k f
 unfolding ballot the_ballot agreed
 heard-fresh right p lim es k a b l m sa sb va vb g =
     let h = history p es in

@@ -16,7 +16,7 @@ use Rattle.dp_core.specs.declared.state.State.{State}
 use Rattle.dp_fixed.specs.Division.{floor_of}
 use Rattle.dp_fixed.specs.Laws.{FloorIsExact}
 use Rattle.dp_fixed.specs.Order.{clamp_of}
-use Rattle.dp_fixed.specs.Scale.{one, one_squared}
+use Rattle.dp_fixed.specs.Scale.{full_scale, full_scale_squared}
 use Rattle.dp_plant.specs.BuiltInPlant.{built_in_bounds, built_in_plant, built_in_thrusters, thruster_between}
 use Rattle.dp_plant.specs.Law.{asked_surge, asked_sway, issued_of}
 use Rattle.dp_plant.specs.Vectors.{entry}
@@ -26,17 +26,17 @@ use Rattle.dp_plant.specs.declared.plant.Plant.{Plant}
 use Rattle.dp_plant.specs.declared.thrusters.Thruster.{Thruster}
 use Rattle.dp_voter.specs.Orders.{IsWithin}
 
-floor_within : (x lo hi f : ℤ) → (one *ℤ (one *ℤ lo)) ≤ℤ x → x ≤ℤ (one *ℤ (one *ℤ hi)) → (f *ℤ one_squared) ≤ℤ x → x <ℤ (f *ℤ one_squared +ℤ one_squared) → IsWithin lo hi f
+floor_within : (x lo hi f : ℤ) → (full_scale *ℤ (full_scale *ℤ lo)) ≤ℤ x → x ≤ℤ (full_scale *ℤ (full_scale *ℤ hi)) → (f *ℤ full_scale_squared) ≤ℤ x → x <ℤ (f *ℤ full_scale_squared +ℤ full_scale_squared) → IsWithin lo hi f
 floor_within x lo hi f a b c d = record { above = omega (arith, ints); below = omega (arith, ints) }
 
 -- a demand lies within its box
 demand-within : (exact : FloorIsExact) (asked lo hi : ℤ) → lo ≤ℤ hi → IsWithin lo hi (issued_of asked lo hi)
 unfolding issued_of
 demand-within exact asked lo hi le =
-    let low = one *ℤ (one *ℤ lo) in
-    let high = one *ℤ (one *ℤ hi) in
-    let f = exact (clamp_of asked low high) one_squared (omega (arith, ints)) in
-    floor_within (clamp_of asked low high) lo hi (floor_of (clamp_of asked low high) one_squared) (omega (arith, ints, clamps)) (omega (arith, ints, clamps)) f.below f.above
+    let low = full_scale *ℤ (full_scale *ℤ lo) in
+    let high = full_scale *ℤ (full_scale *ℤ hi) in
+    let f = exact (clamp_of asked low high) full_scale_squared (omega (arith, ints)) in
+    floor_within (clamp_of asked low high) lo hi (floor_of (clamp_of asked low high) full_scale_squared) (omega (arith, ints, clamps)) (omega (arith, ints, clamps)) f.below f.above
 
 -- the force of an axis
 pub data Axis (k : ℕ) : Type 0 where

@@ -76,16 +76,16 @@ pub length-push : (a b : Buffer Frame) (next : ℕ) (f : Frame) → IsWaiting a 
 length-push a b next f w room is =
     ap (λ (v : Buffer Frame). length v.items) is ∙ omega (arith, w.capacity, length-append a.items (f ∷ []), length-drop (length (a.items ++ f ∷ []) - a.capacity) (a.items ++ f ∷ []))
 
-front_is : (fs : List Frame) (f : Frame) → slice_get fs 0 ≡ Some f → 1 ≤ length fs
-front_is [] f e = absurd cc
-front_is (g ∷ fs) f e = omega arith
+prefix_is : (fs : List Frame) (f : Frame) → slice_get fs 0 ≡ Some f → 1 ≤ length fs
+prefix_is [] f e = absurd cc
+prefix_is (g ∷ fs) f e = omega arith
 
 pub some_wait : (a : Buffer Frame) (f : Frame) → slice_get a.items 0 ≡ Some f → 1 ≤ length a.items
-some_wait a f front = front_is a.items f front
+some_wait a f prefix = prefix_is a.items f prefix
 
 pub length-pop : (a b : Buffer Frame) (f : Frame) → slice_get a.items 0 ≡ Some f → b ≡ buffer (drop 1 a.items) a.capacity → length b.items + 1 ≡ length a.items
-length-pop a b f front is =
-    let some : 1 ≤ length a.items = front_is a.items f front in
+length-pop a b f prefix is =
+    let some : 1 ≤ length a.items = prefix_is a.items f prefix in
     let len : length b.items ≡ length (drop 1 a.items) = ap (λ (v : Buffer Frame). length v.items) is in
     omega (arith, len, length-drop 1 a.items, some)
 
@@ -96,15 +96,15 @@ not_full a next w full =
 
 -- the oldest frame is the one whose number is that of the frames done
 oldest : (fs : List Frame) (n next : ℕ) (f : Frame) → slice_get fs 0 ≡ Some f → AreFrames n fs next → AllByRecursion IsFrameWithin fs → (f.cycle ≡ n) × IsFrameWithin f
-oldest [] n next f front are all = absurd cc
-oldest (g ∷ fs) n next f front are all =
+oldest [] n next f prefix are all = absurd cc
+oldest (g ∷ fs) n next f prefix are all =
     let same : g ≡ f = cc in
     (subst (λ (v : Frame). v.cycle ≡ n) same are.0, subst IsFrameWithin same all.0)
 
-pub front_cycle : (a : Buffer Frame) (next count : ℕ) (f : Frame) → IsWaiting a next → slice_get a.items 0 ≡ Some f → count + length a.items ≡ next → f.cycle ≡ count
-front_cycle a next count f w front live =
+pub prefix_cycle : (a : Buffer Frame) (next count : ℕ) (f : Frame) → IsWaiting a next → slice_get a.items 0 ≡ Some f → count + length a.items ≡ next → f.cycle ≡ count
+prefix_cycle a next count f w prefix live =
     let first : next - length a.items ≡ count = omega (arith, live) in
-    (oldest a.items (next - length a.items) next f front w.frames w.within).0 ∙ first
+    (oldest a.items (next - length a.items) next f prefix w.frames w.within).0 ∙ first
 
-pub front_within : (a : Buffer Frame) (next : ℕ) (f : Frame) → IsWaiting a next → slice_get a.items 0 ≡ Some f → IsFrameWithin f
-front_within a next f w front = (oldest a.items (next - length a.items) next f front w.frames w.within).1
+pub prefix_within : (a : Buffer Frame) (next : ℕ) (f : Frame) → IsWaiting a next → slice_get a.items 0 ≡ Some f → IsFrameWithin f
+prefix_within a next f w prefix = (oldest a.items (next - length a.items) next f prefix w.frames w.within).1

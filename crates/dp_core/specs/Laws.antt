@@ -15,7 +15,7 @@ use Rattle.dp_core.specs.Reference.{IsReferenceForce, reference_state}
 use Rattle.dp_core.specs.Runnable.{IsRunnable}
 use Rattle.dp_core.specs.Seen.{SeenSent}
 use Rattle.dp_core.specs.Trajectory.{done, trajectory}
-use Rattle.dp_core.specs.Voting.{ballot, given, taken, was_heard}
+use Rattle.dp_core.specs.Voting.{ballot, given, taken, is_delivered}
 
 -- with at most one faulty computer in any cycle, each live computer that wasn't skewed since its last break has come to the state of
 -- the reference run after the frames that it has done
@@ -46,5 +46,5 @@ TwoHeardAreFresh = (p : Plant) → IsRunnable p → CanGiveDemand p
     → (es : List Event) → AtMostOneFaulty (history p es)
     → (k a b : ℕ) → a < b → b < 3
     → faulty_in_cycle a (history p es) ≡ false → faulty_in_cycle b (history p es) ≡ false
-    → was_heard k a (history p es) ≡ true → was_heard k b (history p es) ≡ true → given k (history p es) ≡ None
+    → is_delivered k a (history p es) ≡ true → is_delivered k b (history p es) ≡ true → given k (history p es) ≡ None
     → (f : ℤ) × (ballot k (history p es) ≡ Fresh f) × IsReferenceForce p (frames (history p es)) k f

@@ -2,7 +2,7 @@
 use Rattle.std.specs.Prelude.{◌+◌, ◌^◌, ◌==◌, Bool, ◌&&◌, nat_le, if◌then◌else◌, List, [], ◌∷◌, ℤ, pos, unsigned_abs, Option, Some, None, unwrap_or}
 use Rattle.std.specs.List.{find}
 use Rattle.std.specs.Option.{option_map}
-use Rattle.dp_fixed.specs.Scale.{one}
+use Rattle.dp_fixed.specs.Scale.{full_scale}
 use Rattle.dp_plant.specs.declared.frames.Frame.{Frame}
 use Rattle.dp_plant.specs.declared.limits.Box3.{Box3}
 use Rattle.dp_plant.specs.declared.place.Place.{Place}
@@ -29,7 +29,7 @@ rest_in s at = record { count = s.count; plane = rest_at at }
 
 -- the sine pair of heading 0
 abbrev pub north_pair : ℤ × ℤ
-north_pair = (one, pos 0)
+north_pair = (full_scale, pos 0)
 
 abbrev pub three_zeros : List ℤ
 three_zeros = pos 0 ∷ pos 0 ∷ pos 0 ∷ []

@@ -103,8 +103,8 @@ is_delivery a k (Order b j) = (b == a) && (j == k)
 is_delivery a k _ = false
 
 -- computer a was heard: before the first vote of voter k in this cycle its issue of this cycle was delivered
-unfoldable pub was_heard : ℕ → ℕ → List Moment → Bool
-was_heard k a [] = false
-was_heard k a (m ∷ h) =
+unfoldable pub is_delivered : ℕ → ℕ → List Moment → Bool
+is_delivered k a [] = false
+is_delivered k a (m ∷ h) =
     if is_wire m.event then false
-    else ((is_delivery a k m.event && is_ready (last_issue a h) (heard h) (given k h)) || was_heard k a h)
+    else ((is_delivery a k m.event && is_ready (last_issue a h) (heard h) (given k h)) || is_delivered k a h)

@@ -1,6 +1,6 @@
 //! What the control law demands of surge and sway.
 ghost use Rattle.std.specs.Prelude.{◌≡◌, ◌≤◌, ◌^◌, ◌+◌, ◌-ℤ◌, ◌*ℤ◌, ◌≤ℤ◌, neg_ℤ, unsigned_abs};
-ghost use Rattle.dp_fixed.specs.Scale.{one, one_squared};
+ghost use Rattle.dp_fixed.specs.Scale.{full_scale, full_scale_squared};
 ghost use Rattle.dp_fixed.specs.Division.{floor_of};
 ghost use Rattle.dp_fixed.specs.Order.{clamp_of};
 ghost use Rattle.dp_plant.specs.Vectors.{along_surge, along_sway, entry, offset};
@@ -8,7 +8,7 @@ ghost use Rattle.dp_plant.specs.Law.{asked_of, asked_surge, asked_sway, issued_o
 ghost use Rattle.dp_core.specs.Along.{IsAlongWithin};
 ghost use Rattle.dp_plant.specs.Ranges.{IsBiasLimit, IsDemand, IsDemandRange, IsLawGains, IsPair, IsPlaneBox, IsPlaneSetpoint, IsPlaneWithin, IsShare, IsVectorWithin};
 
-use dp_fixed::{clamp, difference, floor_div, narrow, negated, scaled, sum};
+use dp_fixed::{clamp, difference, floor_div, narrow, negated, product, sum};
 use dp_plant::{Box3, Gains, Place, PlaneState, Setpoint};
 
 /// The scale of gains.
@@ -47,8 +47,8 @@ fn along_surge(pair: (i64, i64), v: Place) -> i128
     ensures bound { unsigned_abs result ≤ 2 ^ 88 }
 {
     sum(
-        scaled(pair.0, v.north as i128),
-        scaled(pair.1, v.east as i128),
+        product(pair.0, v.north as i128),
+        product(pair.1, v.east as i128),
     )
 }
 
@@ -61,8 +61,8 @@ fn along_sway(pair: (i64, i64), v: Place) -> i128
     ensures bound { unsigned_abs result ≤ 2 ^ 88 }
 {
     difference(
-        scaled(pair.0, v.east as i128),
-        scaled(pair.1, v.north as i128),
+        product(pair.0, v.east as i128),
+        product(pair.1, v.north as i128),
     )
 }
 
@@ -75,36 +75,36 @@ fn spring(kp: i64, kd: i64, error: i128, velocity: i128) -> i128
     ensures value { result ≡ neg_ℤ (kp *ℤ error) -ℤ (kd *ℤ velocity) }
     ensures bound { unsigned_abs result ≤ 2 ^ 119 }
 {
-    difference(negated(scaled(kp, error)), scaled(kd, velocity))
+    difference(negated(product(kp, error)), product(kd, velocity))
 }
 
 /// The bias of one axis within its limit, times the scale.
 fn limited(limit: i64, bias: i128) -> i128
     requires limit { IsBiasLimit limit }
-    ensures value { result ≡ clamp_of bias (neg_ℤ (one *ℤ limit)) (one *ℤ limit) }
+    ensures value { result ≡ clamp_of bias (neg_ℤ (full_scale *ℤ limit)) (full_scale *ℤ limit) }
     ensures bound { unsigned_abs result ≤ 2 ^ 61 }
 {
-    let most = scaled(ONE, limit as i128);
+    let most = product(ONE, limit as i128);
     clamp(bias, negated(most), most)
 }
 
 /// A number times the square of the scale.
 fn scaled_twice(x: i64) -> i128
     requires { unsigned_abs x ≤ 2 ^ 31 }
-    ensures value { result ≡ one *ℤ (one *ℤ x) }
+    ensures value { result ≡ full_scale *ℤ (full_scale *ℤ x) }
     ensures bound { unsigned_abs result ≤ 2 ^ 91 }
 {
-    scaled(ONE, scaled(ONE, x as i128))
+    product(ONE, product(ONE, x as i128))
 }
 
 /// The spring and the damper, against the bias within its limit.
 fn unbiased(spring: i128, limit: i64, bias: i128) -> i128
     requires spring { unsigned_abs spring ≤ 2 ^ 119 }
     requires limit { IsBiasLimit limit }
-    ensures value { result ≡ spring -ℤ (one *ℤ clamp_of bias (neg_ℤ (one *ℤ limit)) (one *ℤ limit)) }
+    ensures value { result ≡ spring -ℤ (full_scale *ℤ clamp_of bias (neg_ℤ (full_scale *ℤ limit)) (full_scale *ℤ limit)) }
     ensures bound { unsigned_abs result ≤ 2 ^ 119 + 2 ^ 91 }
 {
-    difference(spring, scaled(ONE, limited(limit, bias)))
+    difference(spring, product(ONE, limited(limit, bias)))
 }
 
 /// What is asked of one axis before its limits.
@@ -123,9 +123,9 @@ fn asked(kp: i64, kd: i64, limit: i64, along: Along, wind: i64) -> i128
 /// The quotient of a number by the square of the scale.
 fn divided(z: i128, lo: i64, hi: i64) -> i128
     requires range { IsDemandRange lo hi }
-    requires low { (one *ℤ (one *ℤ lo)) ≤ℤ z }
-    requires high { z ≤ℤ (one *ℤ (one *ℤ hi)) }
-    ensures value { result ≡ floor_of z one_squared }
+    requires low { (full_scale *ℤ (full_scale *ℤ lo)) ≤ℤ z }
+    requires high { z ≤ℤ (full_scale *ℤ (full_scale *ℤ hi)) }
+    ensures value { result ≡ floor_of z full_scale_squared }
     ensures low { lo ≤ℤ result }
     ensures high { result ≤ℤ hi }
 {

@@ -1,9 +1,7 @@
 -- Floors and ceilings, by cases on the sign, and what follows from their two inequalities.
 use Rattle.std.proofs.Common.{◌≡◌, ℕ, zero, suc, arith, ℤ, pos, negsuc, neg_ℤ, ◌+ℤ◌, ◌-ℤ◌, ◌*ℤ◌, ◌≤ℤ◌, ◌<ℤ◌}
 use Rattle.std.proofs.lemmas.Int.{ints, by_lt_z}
-use Rattle.dp_algebra.proofs.Ring.{var, num, ◌⊕◌, ◌⊗◌, minus, ring}
-use Rattle.dp_algebra.proofs.Order.{mul_le}
-use Rattle.std.proofs.Common.{List, [], ◌∷◌}
+use Rattle.dp_fixed.proofs.Multiples.{mul_le, negated_product, product_next, product_of_sum, product_turned}
 use Rattle.dp_fixed.specs.Division.{IsCeil, IsFloor, ceil_of, floor_of}
 
 floor_below : (n d : ℤ) → pos 0 <ℤ d → (floor_of n d *ℤ d) ≤ℤ n
@@ -18,12 +16,6 @@ floor_above n (negsuc b) h = absurd (omega (arith, ints))
 
 pub floor_is : (n d : ℤ) → pos 0 <ℤ d → IsFloor n d (floor_of n d)
 floor_is n d h = record { below = floor_below n d h; above = floor_above n d h }
-
-product_next : (p d : ℤ) → d *ℤ (p +ℤ pos 1) ≡ p *ℤ d +ℤ d
-product_next p d = ring (p ∷ (d ∷ [])) (var 1 ⊗ (var 0 ⊕ num (pos 1))) (var 0 ⊗ var 1 ⊕ var 1) tt
-
-product_turned : (q d : ℤ) → d *ℤ q ≡ q *ℤ d
-product_turned q d = ring (q ∷ (d ∷ [])) (var 1 ⊗ var 0) (var 0 ⊗ var 1) tt
 
 -- a multiple of d that is at most n is not past the floor
 pub floor_greatest : (n m d p q : ℤ) → pos 0 <ℤ d → n ≤ℤ m → (q *ℤ d) ≤ℤ n → m <ℤ (p *ℤ d +ℤ d) → q ≤ℤ p
@@ -45,9 +37,6 @@ floor_only n d q h f =
 pub floor_monotone : (n m d : ℤ) → pos 0 <ℤ d → n ≤ℤ m → floor_of n d ≤ℤ floor_of m d
 floor_monotone n m d h le = floor_greatest n m d (floor_of m d) (floor_of n d) h le (floor_is n d h).below (floor_is m d h).above
 
-product_of_sum : (q k d : ℤ) → (q +ℤ k) *ℤ d ≡ q *ℤ d +ℤ k *ℤ d
-product_of_sum q k d = ring (q ∷ (k ∷ (d ∷ []))) ((var 0 ⊕ var 1) ⊗ var 2) (var 0 ⊗ var 2 ⊕ var 1 ⊗ var 2) tt
-
 sym_floor : (a b : ℤ) → a ≡ b → b ≡ a
 sym_floor a b e = omega (arith, ints, e)
 
@@ -60,9 +49,6 @@ floor_shifted n k d h =
       above = omega (arith, ints, split, f.above);
     } in
     sym_floor _ _ (floor_only (n +ℤ k *ℤ d) d (floor_of n d +ℤ k) h is)
-
-negated_product : (q d : ℤ) → neg_ℤ q *ℤ d ≡ neg_ℤ (q *ℤ d)
-negated_product q d = ring (q ∷ (d ∷ [])) (minus (var 0) ⊗ var 1) (minus (var 0 ⊗ var 1)) tt
 
 pub ceil_is : (n d : ℤ) → pos 0 <ℤ d → IsCeil n d (ceil_of n d)
 ceil_is n d h =

@@ -1,3 +1,4 @@
+pub mod Multiples
 pub mod Divisions
 pub mod Clamps
 pub mod Wraps

@@ -2,9 +2,9 @@
 use Rattle.std.specs.Prelude.{ℤ, pos}
 
 -- 2^30, which stands for one
-abbrev pub one : ℤ
-one = pos 1073741824
+abbrev pub full_scale : ℤ
+full_scale = pos 1073741824
 
 -- 2^60, the product of two scales
-abbrev pub one_squared : ℤ
-one_squared = pos 1152921504606846976
+abbrev pub full_scale_squared : ℤ
+full_scale_squared = pos 1152921504606846976

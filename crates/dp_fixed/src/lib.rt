@@ -15,7 +15,7 @@ mod turns;
 pub use division::{ceil_div, floor_div};
 pub use order::{clamp, mid3};
 pub use roots::root_up;
-pub use steps::{difference, narrow, negated, scaled, sum};
+pub use steps::{difference, narrow, negated, product, sum};
 pub use turns::wrap;
 
 /// The scale of gains, shares and sine pairs: 2^30 stands for one.

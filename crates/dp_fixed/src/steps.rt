@@ -30,7 +30,7 @@ pub fn negated(a: i128) -> i128
     -a
 }
 
-fn product(share: i64, x: i128) -> i128
+fn times(share: i64, x: i128) -> i128
     requires share { unsigned_abs share ≤ 2 ^ 30 }
     requires number { unsigned_abs x ≤ 2 ^ 94 }
     ensures { result ≡ share *ℤ x }
@@ -39,13 +39,13 @@ fn product(share: i64, x: i128) -> i128
 }
 
 /// A number times a share: a gain, or a part of a sine pair, over the scale.
-pub fn scaled(share: i64, x: i128) -> i128
+pub fn product(share: i64, x: i128) -> i128
     requires share { unsigned_abs share ≤ 2 ^ 30 }
     requires number { unsigned_abs x ≤ 2 ^ 94 }
     ensures value { result ≡ share *ℤ x }
     ensures bound { unsigned_abs result ≤ 2 ^ 30 * unsigned_abs x }
 {
-    product(share, x)
+    times(share, x)
 }
 
 /// The same number in 64 bits.

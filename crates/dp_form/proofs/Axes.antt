@@ -5,8 +5,8 @@ use lib.IntN.{*ℤ_comm}
 use Rattle.dp_form.specs.Vectors.{add, scale}
 use Rattle.dp_form.specs.Form.{bilinear, form, plane_form, IsNonNegative}
 use Rattle.dp_form.specs.Axes.{along, across}
-use Rattle.dp_algebra.proofs.Ring.{var, num, ◌⊕◌, ◌⊗◌, minus, ring}
-use Rattle.dp_algebra.proofs.Order.{mul_le}
+use Rattle.dp_form.proofs.Ring.{var, num, ◌⊕◌, ◌⊗◌, minus, ring}
+use Rattle.dp_form.proofs.Order.{mul_le}
 use Rattle.dp_form.proofs.Expansion.{form_two}
 
 pub axes_form : (p : List (List ℤ)) (c s : ℤ) (x y : List ℤ) →

@@ -4,7 +4,7 @@ use Rattle.std.proofs.lemmas.Int.{ints}
 use lib.IntN.{*ℤ_comm, +ℤ_idl, +ℤ_idr, *ℤ-zero}
 use Rattle.dp_form.specs.Vectors.{dot, add, scale, apply, matrix_add, outer}
 use Rattle.dp_form.specs.Form.{bilinear}
-use Rattle.dp_algebra.proofs.RingLaws.{*ℤ_assoc, +ℤ-*ℤ, *ℤ-+ℤ}
+use Rattle.dp_form.proofs.RingLaws.{*ℤ_assoc, +ℤ-*ℤ, *ℤ-+ℤ}
 
 four_sum : (a b c d : ℤ) → (a +ℤ b) +ℤ (c +ℤ d) ≡ (a +ℤ c) +ℤ (b +ℤ d)
 four_sum a b c d = omega (arith, ints)

@@ -2,7 +2,7 @@
 use Rattle.std.proofs.Common.{◌≡◌, [], ◌∷◌, subst, arith, ℤ, pos, ◌-ℤ◌, ◌*ℤ◌, ◌≤ℤ◌}
 use Rattle.std.proofs.lemmas.Int.{ints, clamps, by_lt_z}
 use Rattle.dp_form.specs.Clamp.{clamp, Share}
-use Rattle.dp_algebra.proofs.Ring.{var, num, ◌⊗◌, ◌⊕◌, minus, ring}
+use Rattle.dp_form.proofs.Ring.{var, num, ◌⊗◌, ◌⊕◌, minus, ring}
 
 rising : (lo hi z y : ℤ) → lo ≤ℤ hi → z ≤ℤ y → (clamp lo hi z ≤ℤ clamp lo hi y) × ((clamp lo hi y -ℤ clamp lo hi z) ≤ℤ (y -ℤ z))
 rising lo hi z y h k = (omega (arith, ints, clamps), omega (arith, ints, clamps))

@@ -8,8 +8,8 @@ use Rattle.std.specs.Int.RustNames.{unsigned_abs}
 use lib.IntN.{*ℤ_comm, *ℤ-zero, zero-*ℤ}
 use Rattle.dp_form.specs.Vectors.{dot, add, scale, apply, row, entry}
 use Rattle.dp_form.specs.Form.{form}
-use Rattle.dp_algebra.proofs.Ring.{var, num, ◌⊕◌, ◌⊗◌, minus, ring}
-use Rattle.dp_algebra.proofs.Order.{square_nonneg, mul_nonneg, mul_le}
+use Rattle.dp_form.proofs.Ring.{var, num, ◌⊕◌, ◌⊗◌, minus, ring}
+use Rattle.dp_form.proofs.Order.{square_nonneg, mul_nonneg, mul_le}
 use Rattle.dp_form.proofs.Bilinear.{dot_comm, dot_add_right, dot_scale_right}
 use Rattle.dp_form.proofs.Entries.{place, place-add}
 

@@ -4,7 +4,7 @@ use Rattle.std.proofs.lemmas.List.{take_more}
 use Rattle.std.proofs.lemmas.List.Elements.{All-push}
 use Rattle.std.specs.Prelude.{slice_index_or, All}
 use lib.IntN.{*ℤ-zero, zero-*ℤ, +ℤ_idl, +ℤ_idr}
-use Rattle.dp_algebra.proofs.Ring.{var, ◌⊗◌, minus, ring}
+use Rattle.dp_form.proofs.Ring.{var, ◌⊗◌, minus, ring}
 use Rattle.dp_form.specs.Vectors.{add, scale, matrix_add, outer, row, entry}
 use Rattle.dp_form.specs.Residual.{residual}
 use Rattle.dp_form.specs.declared.Square.{Square}

@@ -2,7 +2,7 @@
 use Rattle.std.proofs.Common.{◌≡◌, List, [], ◌∷◌, ap, ◌∙◌, ℤ, ◌+ℤ◌, ◌*ℤ◌}
 use Rattle.dp_form.specs.Vectors.{add, scale}
 use Rattle.dp_form.specs.Form.{bilinear, form}
-use Rattle.dp_algebra.proofs.Ring.{var, ◌⊕◌, ◌⊗◌, ring}
+use Rattle.dp_form.proofs.Ring.{var, ◌⊕◌, ◌⊗◌, ring}
 use Rattle.dp_form.proofs.Bilinear.{bilinear_add, bilinear_add_right, bilinear_scale, bilinear_scale_right}
 
 pub form_scale : (p : List (List ℤ)) (k : ℤ) (x : List ℤ) → form p (scale k x) ≡ k *ℤ k *ℤ form p x

@@ -1,3 +1,6 @@
+pub mod RingLaws
+pub mod Ring
+pub mod Order
 pub mod Products
 pub mod Entries
 pub mod Sizes

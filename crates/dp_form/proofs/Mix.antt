@@ -7,8 +7,8 @@ use lib.IntN.{*ℤ-zero}
 use Rattle.dp_form.specs.Vectors.{dot, add, scale, apply}
 use Rattle.dp_form.specs.Form.{bilinear, form, IsNonNegative}
 use Rattle.dp_form.specs.Mix.{Weighted, mixture, total_weight, weighted_forms}
-use Rattle.dp_algebra.proofs.Ring.{var, ◌⊕◌, ◌⊗◌, ring}
-use Rattle.dp_algebra.proofs.Order.{mul_le}
+use Rattle.dp_form.proofs.Ring.{var, ◌⊕◌, ◌⊗◌, ring}
+use Rattle.dp_form.proofs.Order.{mul_le}
 use Rattle.dp_form.proofs.Bilinear.{dot_nil, bilinear_add, bilinear_add_right, bilinear_scale, bilinear_scale_right}
 use Rattle.dp_form.proofs.Expansion.{form_two, form_sum, form_scale}
 

@@ -10,8 +10,8 @@ use Rattle.dp_form.specs.Residual.{residual}
 use Rattle.dp_form.specs.Shown.{IsShown}
 use Rattle.dp_form.specs.Dominance.{IsDiagonallyDominant}
 use Rattle.dp_form.specs.declared.Square.{Square}
-use Rattle.dp_algebra.proofs.Ring.{var, ◌⊕◌, ◌⊗◌, minus, ring}
-use Rattle.dp_algebra.proofs.Order.{square_nonneg, mul_nonneg}
+use Rattle.dp_form.proofs.Ring.{var, ◌⊕◌, ◌⊗◌, minus, ring}
+use Rattle.dp_form.proofs.Order.{square_nonneg, mul_nonneg}
 use Rattle.dp_form.proofs.Bilinear.{bilinear_matrix_add, bilinear_outer, dot_scale}
 use Rattle.dp_form.proofs.Entries.{less, part, place, entry-less}
 use Rattle.dp_form.proofs.Sizes.{length-row_residual, length-residual}

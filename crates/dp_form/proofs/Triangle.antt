@@ -4,8 +4,8 @@ use Rattle.std.proofs.lemmas.Int.{ints, by_lt_z}
 use lib.IntN.{*ℤ-zero}
 use Rattle.dp_form.specs.Vectors.{add, scale}
 use Rattle.dp_form.specs.Form.{bilinear, form, IsNonNegative}
-use Rattle.dp_algebra.proofs.Ring.{var, num, ◌⊕◌, ◌⊗◌, minus, ring}
-use Rattle.dp_algebra.proofs.Order.{square_nonneg, mul_nonneg, mul_le, le_cancel, mul_pos}
+use Rattle.dp_form.proofs.Ring.{var, num, ◌⊕◌, ◌⊗◌, minus, ring}
+use Rattle.dp_form.proofs.Order.{square_nonneg, mul_nonneg, mul_le, le_cancel, mul_pos}
 use Rattle.dp_form.proofs.Expansion.{form_two, form_sum}
 
 square_apart : (n m : ℤ) → (n +ℤ m) *ℤ (n +ℤ m) ≡ n *ℤ n +ℤ pos 2 *ℤ (n *ℤ m) +ℤ m *ℤ m

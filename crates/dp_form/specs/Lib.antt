@@ -9,3 +9,4 @@ pub mod Triangle
 pub mod Mix
 pub mod Axes
 pub mod Clamp
+pub mod ProductLaws

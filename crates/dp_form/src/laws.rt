@@ -6,6 +6,20 @@ ghost use Rattle.dp_form.specs.Triangle.{PlaneTriangle, Triangle};
 ghost use Rattle.dp_form.specs.Mix.{Mix, MixBelow};
 ghost use Rattle.dp_form.specs.Axes.{AxesSplit, ShortPairBound};
 ghost use Rattle.dp_form.specs.Clamp.{ClampShares};
+ghost use Rattle.dp_form.specs.ProductLaws.{FactorsCancel, FactorsKeepOrder, ProductsAssociate, ProductsDistribute, SquaresAreNonNegative};
+
+/// The laws of `*` and `+`: products associate and distribute over sums.
+pub fn laws_of_products()
+    ensures associate { ProductsAssociate }
+    ensures distribute { ProductsDistribute }
+{}
+
+/// The order of products: squares are at least 0, a factor from 0 up keeps an order, and one above 0 may be dropped.
+pub fn order_of_products()
+    ensures squares { SquaresAreNonNegative }
+    ensures factors_keep { FactorsKeepOrder }
+    ensures factors_cancel { FactorsCancel }
+{}
 
 /// A symmetric matrix that squares show has a form of at least 0 for every vector.
 pub fn shown()

@@ -14,7 +14,7 @@ use Rattle.dp_frame.specs.Frames.{frame_of, no_frame}
 use Rattle.dp_text.specs.Lines.{is_newline, stripped}
 use Rattle.dp_frame.specs.Record.{all_lines, ended_lines, entries, first_refusal, good_lines, last_cycle, unfinished_line}
 use Rattle.dp_frame.specs.Feeds.{answer, closed, given, told}
-use Rattle.dp_frame.specs.Books.{Follows}
+use Rattle.dp_frame.specs.Progresses.{Follows}
 use Rattle.dp_frame.specs.Cycles.{answers_after, frames_so_far, frames_upto}
 use Rattle.dp_frame.proofs.EmptyFrames.{frame-later, frame-before}
 use Rattle.dp_frame.proofs.GrowingLines.{entries-refused}
@@ -59,12 +59,12 @@ frames-later e es f lt =
     let all : e.cycle ≡ a + suc m = omega (arith, lt) in
     let split : range_with_len 0 e.cycle ≡ range_with_len 0 a ++ range_with_len a (suc m) =
     ap (range_with_len 0) all ∙ range-split 0 a (suc m) ∙ ap (λ k. range_with_len 0 a ++ range_with_len k (suc m)) (zero-add a) in
-    let front : map (λ k. frame_of k (e ∷ es)) (range_with_len 0 a) ≡ map (λ k. frame_of k es) (range_with_len 0 a) = frames-same e es a (omega (arith, lt)) in
+    let prefix : map (λ k. frame_of k (e ∷ es)) (range_with_len 0 a) ≡ map (λ k. frame_of k es) (range_with_len 0 a) = frames-same e es a (omega (arith, lt)) in
     let here : frame_of a (e ∷ es) ≡ frame_of a es = frame-later a e es lt in
     let behind : map (λ k. frame_of k (e ∷ es)) (range_with_len (a + 1) m) ≡ map no_frame (range_with_len (a + 1) m) =
     map-range-same _ _ (a + 1) m (λ k low high. frame-later k e es (omega (arith, high, lt)) ∙ frame-before k es (f.rising k (omega (arith, low)))) in
     ap (map (λ k. frame_of k (e ∷ es))) split ∙ map-append (λ k. frame_of k (e ∷ es)) (range_with_len 0 a) (range_with_len a (suc m))
-    ∙ rw (front, here, behind, frame_of-cycle a es)
+    ∙ rw (prefix, here, behind, frame_of-cycle a es)
 
 frames-entered : (e : Entry) (es : List Entry) → Follows es e
     → frames_upto e.cycle (e ∷ es) ≡ frames_upto (last_cycle es) es ++ given (closed es (e ∷ es))

@@ -6,7 +6,7 @@ use Rattle.std.proofs.lemmas.Bool.Decides.{nat_tests}
 use Rattle.dp_plant.specs.declared.frames.Wire.{Wire}
 use Rattle.dp_frame.specs.declared.entry.Brought.{Brought}
 use Rattle.dp_frame.specs.declared.entry.Entry.{Entry}
-use Rattle.dp_frame.specs.declared.entry.Sense.{Sense}
+use Rattle.dp_frame.specs.declared.entry.Content.{Content}
 use Rattle.dp_frame.specs.Slots.{last_reading, slot_of, no_slot, place_of, heading_of, gust_of, ready_of}
 use Rattle.dp_frame.specs.Frames.{slots_of, frame_of, no_frame, is_pos, is_gyro, is_wind, is_group, IsBefore}
 use Rattle.dp_frame.proofs.SlotSteps.{slot-miss, slots-miss}
@@ -36,16 +36,16 @@ frame-later n e es lt =
     miss v = rw (more-eqb e.cycle n lt) (and_false v)
 
 module _ {T : Type 0} where
-  slot-before : (is_wire : ℕ → Wire → Bool) (brought : Sense → Brought T) (k n : ℕ) (es : List Entry) → IsBefore n es
-      → slot_of (λ x. is_wire k x.wire && x.cycle == n) (λ x. brought x.sense) es ≡ no_slot
+  slot-before : (is_wire : ℕ → Wire → Bool) (brought : Content → Brought T) (k n : ℕ) (es : List Entry) → IsBefore n es
+      → slot_of (λ x. is_wire k x.wire && x.cycle == n) (λ x. brought x.content) es ≡ no_slot
   unfolding slot_of last_reading IsBefore
   slot-before is_wire brought k n [] b = refl
   slot-before is_wire brought k n (e ∷ es) b =
-      slot-miss (λ x. is_wire k x.wire && x.cycle == n) (λ x. brought x.sense) e es (rw (less-eqb e.cycle n b.0) (and_false (is_wire k e.wire)))
+      slot-miss (λ x. is_wire k x.wire && x.cycle == n) (λ x. brought x.content) e es (rw (less-eqb e.cycle n b.0) (and_false (is_wire k e.wire)))
       ∙ slot-before is_wire brought k n es b.1
 
-  slots-before : (is_wire : ℕ → Wire → Bool) (brought : Sense → Brought T) (n : ℕ) (es : List Entry) (ks : List ℕ) → IsBefore n es
-      → map (λ k. slot_of (λ x. is_wire k x.wire && x.cycle == n) (λ x. brought x.sense) es) ks ≡ map (λ k. no_slot) ks
+  slots-before : (is_wire : ℕ → Wire → Bool) (brought : Content → Brought T) (n : ℕ) (es : List Entry) (ks : List ℕ) → IsBefore n es
+      → map (λ k. slot_of (λ x. is_wire k x.wire && x.cycle == n) (λ x. brought x.content) es) ks ≡ map (λ k. no_slot) ks
   slots-before is_wire brought n es [] b = refl
   slots-before is_wire brought n es (k ∷ ks) b = rw (slot-before is_wire brought k n es b, slots-before is_wire brought n es ks b)
 

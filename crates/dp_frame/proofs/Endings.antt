@@ -134,10 +134,10 @@ last-in_record p lines = by_test (is_some (first_refusal p lines)) (entries p li
     by_test true es = omega arith
     by_test false es = last-within es
 
-front-of_lines : (p : Settings) (lines more : List (List ℕ)) → 0 < p.cycle_ms
+prefix-of_lines : (p : Settings) (lines more : List (List ℕ)) → 0 < p.cycle_ms
     → take (length (frames_so_far p lines)) (record_frames p (more ++ lines)) ≡ frames_so_far p lines
 unfolding frames_so_far record_frames frames_upto
-front-of_lines p lines more some =
+prefix-of_lines p lines more some =
     let es = entries p lines in
     let fs = entries p (more ++ lines) in
     let grown = lasts p lines more some in
@@ -146,9 +146,9 @@ front-of_lines p lines more some =
     (take-map-range_with_len (λ k. frame_of k fs) 0 (record_length p (more ++ lines)) (last_cycle es) (omega (arith, grown.later, last-in_record p (more ++ lines)))
     ∙ map-range-same _ _ 0 (last_cycle es) (λ k low high. grown.frames k (omega (arith, high))))
 
-pub front-of-record : (p : Settings) (text more : List ℕ) → 0 < p.cycle_ms
+pub prefix-of-record : (p : Settings) (text more : List ℕ) → 0 < p.cycle_ms
     → take (length (frames_so_far p (ended_lines text))) (record_frames p (all_lines (text ++ more))) ≡ frames_so_far p (ended_lines text)
-front-of-record p text more some = let a = all-more text more in rw a.1 (front-of_lines p (ended_lines text) a.0 some)
+prefix-of-record p text more some = let a = all-more text more in rw a.1 (prefix-of_lines p (ended_lines text) a.0 some)
 
 pub refusal-ends : (p : Settings) (text more : List ℕ) (r : Refusal) → first_refusal p (ended_lines text) ≡ Some r
     → (first_refusal p (ended_lines (text ++ more)) ≡ Some r) × (first_refusal p (all_lines (text ++ more)) ≡ Some r)

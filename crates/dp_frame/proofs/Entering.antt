@@ -11,7 +11,7 @@ use Rattle.dp_frame.specs.Slots.{no_slot}
 use Rattle.dp_frame.specs.Frames.{frame_of, no_frame, IsFrameBounded}
 use Rattle.dp_frame.specs.Record.{last_cycle}
 use Rattle.dp_frame.specs.Feeds.{closed, given}
-use Rattle.dp_frame.specs.Books.{Follows}
+use Rattle.dp_frame.specs.Progresses.{Follows}
 use Rattle.dp_frame.proofs.EmptyFrames.{frame-later}
 
 pub is_less : (a b : ℕ) → a < b → nat_lt a b ≡ true

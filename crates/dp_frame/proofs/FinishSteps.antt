@@ -4,7 +4,7 @@ use Rattle.std.specs.Prelude.{◌==◌}
 use Rattle.std.proofs.lemmas.List.{length-take}
 use Rattle.std.proofs.lemmas.Bool.{cases_lt}
 use Rattle.std.proofs.lemmas.Bool.Decides.{nat_tests}
-use Rattle.dp_frame.specs.declared.book.Book.{Book}
+use Rattle.dp_frame.specs.declared.progress.Progress.{Progress}
 use Rattle.dp_frame.specs.declared.settings.Settings.{Settings}
 use Rattle.dp_frame.specs.declared.fault.Refusal.{Refusal}
 use Rattle.dp_frame.specs.declared.fault.Refusal.TheVariants as refusal
@@ -14,7 +14,7 @@ use Rattle.dp_frame.specs.declared.feed.Phase.{Phase}
 use Rattle.dp_frame.specs.declared.feed.Phase.TheVariants.{Open, Last, Done}
 use Rattle.dp_frame.specs.Record.{first_refusal, entries, ended_lines, all_lines, unfinished_line}
 use Rattle.dp_frame.specs.Feeds.{answer, closed, ending, is_more, last_frame, phase_after, told, told_or}
-use Rattle.dp_frame.specs.Books.{BookRepresents}
+use Rattle.dp_frame.specs.Progresses.{ProgressRepresents}
 use Rattle.dp_frame.specs.LinesState.{LinesState}
 use Rattle.dp_frame.specs.Represents.{Represents, RepresentsWhole}
 use Rattle.dp_frame.proofs.TextSteps.{all-ended}
@@ -46,25 +46,25 @@ pub answer-none : (p : Settings) (lines : List (List ℕ)) → first_refusal p l
 unfolding answer
 answer-none p lines ok = rw (ok, closed-still (entries p lines))
 
--- the front is the unfinished line, or both are too long
-front-cases : (u front : List ℕ) → front ≡ take 193 u → (front ≡ u) ⊎ ((192 < length front) × (192 < length u))
-front-cases u front is =
+-- the prefix is the unfinished line, or both are too long
+prefix-cases : (u prefix : List ℕ) → prefix ≡ take 193 u → (prefix ≡ u) ⊎ ((192 < length prefix) × (192 < length u))
+prefix-cases u prefix is =
     elim (cases_lt 193 (length u)) [
       | inl lt ↦ inr (rw is (omega (arith, length-take 193 u, lt)), omega (arith, lt))
       | inr le ↦ inl (is ∙ take-all 193 u le)
     ]
 
-book-left : (b : Book) (t : List ℕ) (front : List ℕ) → first_refusal b.settings (ended_lines t) ≡ None → (length (unfinished_line t) ≡ 0 → ⊥)
-    → (front ≡ unfinished_line t) ⊎ ((192 < length front) × (192 < length (unfinished_line t))) → BookRepresents b (front ∷ ended_lines t)
-    → BookRepresents b (all_lines t)
-book-left b t front ok some (inl is) r = rw (all-left t some) (subst (λ l. BookRepresents b (l ∷ ended_lines t)) is r)
-book-left b t front ok some (inr long) r = rw (all-left t some) (represents-long b (ended_lines t) front _ ok long.0 long.1 r)
+progress-left : (b : Progress) (t : List ℕ) (prefix : List ℕ) → first_refusal b.settings (ended_lines t) ≡ None → (length (unfinished_line t) ≡ 0 → ⊥)
+    → (prefix ≡ unfinished_line t) ⊎ ((192 < length prefix) × (192 < length (unfinished_line t))) → ProgressRepresents b (prefix ∷ ended_lines t)
+    → ProgressRepresents b (all_lines t)
+progress-left b t prefix ok some (inl is) r = rw (all-left t some) (subst (λ l. ProgressRepresents b (l ∷ ended_lines t)) is r)
+progress-left b t prefix ok some (inr long) r = rw (all-left t some) (represents-long b (ended_lines t) prefix _ ok long.0 long.1 r)
 
-answer-left : (p : Settings) (t : List ℕ) (front : List ℕ) → first_refusal p (ended_lines t) ≡ None → (length (unfinished_line t) ≡ 0 → ⊥)
-    → (front ≡ unfinished_line t) ⊎ ((192 < length front) × (192 < length (unfinished_line t)))
-    → answer p (ended_lines t) (front ∷ ended_lines t) ≡ answer p (ended_lines t) (all_lines t)
-answer-left p t front ok some (inl is) = rw (all-left t some, is)
-answer-left p t front ok some (inr long) = rw (all-left t some) (answer-long p (ended_lines t) front _ ok long.0 long.1)
+answer-left : (p : Settings) (t : List ℕ) (prefix : List ℕ) → first_refusal p (ended_lines t) ≡ None → (length (unfinished_line t) ≡ 0 → ⊥)
+    → (prefix ≡ unfinished_line t) ⊎ ((192 < length prefix) × (192 < length (unfinished_line t)))
+    → answer p (ended_lines t) (prefix ∷ ended_lines t) ≡ answer p (ended_lines t) (all_lines t)
+answer-left p t prefix ok some (inl is) = rw (all-left t some, is)
+answer-left p t prefix ok some (inr long) = rw (all-left t some) (answer-long p (ended_lines t) prefix _ ok long.0 long.1)
 
 -- nothing but the last frame is left
 pub ending-more : (p : Settings) (t : List ℕ) → answer p (ended_lines t) (all_lines t) ≡ More
@@ -102,23 +102,23 @@ done_open is = cc
 pub last_open : Last ≡ Open → ⊥
 last_open is = cc
 
-pub whole-done : (b : Book) (front : List ℕ) (n m : ℕ) (t : List ℕ) → BookRepresents b (all_lines t)
-    → RepresentsWhole record { book = b; front = front; front_len = n; bytes = m; phase = Done } t
-whole-done b front n m t r = record { before = λ is. absurd (done_open is); after = λ _. r }
+pub whole-done : (b : Progress) (prefix : List ℕ) (n m : ℕ) (t : List ℕ) → ProgressRepresents b (all_lines t)
+    → RepresentsWhole record { progress = b; prefix = prefix; prefix_len = n; bytes = m; phase = Done } t
+whole-done b prefix n m t r = record { before = λ is. absurd (done_open is); after = λ _. r }
 
-pub whole-last : (b : Book) (front : List ℕ) (n m : ℕ) (t : List ℕ) → BookRepresents b (all_lines t)
-    → RepresentsWhole record { book = b; front = front; front_len = n; bytes = m; phase = Last } t
-whole-last b front n m t r = record { before = λ is. absurd (last_open is); after = λ _. r }
+pub whole-last : (b : Progress) (prefix : List ℕ) (n m : ℕ) (t : List ℕ) → ProgressRepresents b (all_lines t)
+    → RepresentsWhole record { progress = b; prefix = prefix; prefix_len = n; bytes = m; phase = Last } t
+whole-last b prefix n m t r = record { before = λ is. absurd (last_open is); after = λ _. r }
 
-pub whole-book : (s : LinesState) (t : List ℕ) (q : Phase) → s.phase ≡ q → (q ≡ Open → ⊥) → RepresentsWhole s t → BookRepresents s.book (all_lines t)
-whole-book s t q is other w = w.after (λ still. other (sym is ∙ still))
+pub whole-progress : (s : LinesState) (t : List ℕ) (q : Phase) → s.phase ≡ q → (q ≡ Open → ⊥) → RepresentsWhole s t → ProgressRepresents s.progress (all_lines t)
+whole-progress s t q is other w = w.after (λ still. other (sym is ∙ still))
 
 -- a line that can't be taken is told again and again
-refusal-all : (s : LinesState) (t : List ℕ) (q : Phase) (r : Refusal) → s.phase ≡ q → s.book.refusal ≡ Some r → RepresentsWhole s t
-    → first_refusal s.book.settings (all_lines t) ≡ Some r
-refusal-all s t Open r is stop w = all-refusal s.book.settings t r (sym (w.before is).lines.refusal ∙ stop)
-refusal-all s t Last r is stop w = sym (whole-book s t Last is last_open w).refusal ∙ stop
-refusal-all s t Done r is stop w = sym (whole-book s t Done is done_open w).refusal ∙ stop
+refusal-all : (s : LinesState) (t : List ℕ) (q : Phase) (r : Refusal) → s.phase ≡ q → s.progress.refusal ≡ Some r → RepresentsWhole s t
+    → first_refusal s.progress.settings (all_lines t) ≡ Some r
+refusal-all s t Open r is stop w = all-refusal s.progress.settings t r (sym (w.before is).lines.refusal ∙ stop)
+refusal-all s t Last r is stop w = sym (whole-progress s t Last is last_open w).refusal ∙ stop
+refusal-all s t Done r is stop w = sym (whole-progress s t Done is done_open w).refusal ∙ stop
 
 pub answer-refused : (p : Settings) (before after : List (List ℕ)) (r : Refusal) → first_refusal p after ≡ Some r → answer p before after ≡ told r
 unfolding answer
@@ -134,12 +134,12 @@ ending-refused p t Open r is = rw (answer-refused p (ended_lines t) (all_lines t
 ending-refused p t Last r is = rw is
 ending-refused p t Done r is = rw is
 
-pub ending-told : (s : LinesState) (t : List ℕ) (r : Refusal) → s.book.refusal ≡ Some r → RepresentsWhole s t
-    → told r ≡ ending s.book.settings t s.phase
-ending-told s t r stop w = sym (ending-refused s.book.settings t s.phase r (refusal-all s t s.phase r refl stop w))
+pub ending-told : (s : LinesState) (t : List ℕ) (r : Refusal) → s.progress.refusal ≡ Some r → RepresentsWhole s t
+    → told r ≡ ending s.progress.settings t s.phase
+ending-told s t r stop w = sym (ending-refused s.progress.settings t s.phase r (refusal-all s t s.phase r refl stop w))
 
-pub no_refusal : (s : LinesState) (t : List ℕ) (r : Refusal) → s.book.refusal ≡ Some r → RepresentsWhole s t
-    → first_refusal s.book.settings (all_lines t) ≡ None → ⊥
+pub no_refusal : (s : LinesState) (t : List ℕ) (r : Refusal) → s.progress.refusal ≡ Some r → RepresentsWhole s t
+    → first_refusal s.progress.settings (all_lines t) ≡ None → ⊥
 no_refusal s t r stop w ok = let a = refusal-all s t s.phase r refl stop w in cc
 
 pub ending-last : (p : Settings) (t : List ℕ) (q : Phase) → q ≡ Last → first_refusal p (all_lines t) ≡ None
@@ -152,22 +152,22 @@ pub ending-done : (p : Settings) (t : List ℕ) (q : Phase) → q ≡ Done → f
 unfolding ending phase_after
 ending-done p t q is ok = (rw (is, ok), rw is)
 
--- the unfinished line is judged: the book of all lines, and the answer
-pub record Judges (s : LinesState) (b : Book) (a : Feed) (t : List ℕ) : Type 0 where
-  pub book : BookRepresents b (all_lines t)
-  pub answer_is : a ≡ answer s.book.settings (ended_lines t) (all_lines t)
+-- the unfinished line is judged: the progress of all lines, and the answer
+pub record Judges (s : LinesState) (b : Progress) (a : Feed) (t : List ℕ) : Type 0 where
+  pub progress : ProgressRepresents b (all_lines t)
+  pub answer_is : a ≡ answer s.progress.settings (ended_lines t) (all_lines t)
 
-pub judges : (s : LinesState) (b : Book) (a : Feed) (line : List ℕ) (t : List ℕ) → Represents s t → s.book.refusal ≡ None → (s.front_len ≡ 0 → ⊥)
-    → line ≡ s.front → b.settings ≡ s.book.settings
-    → BookRepresents b (line ∷ ended_lines t) → a ≡ answer s.book.settings (ended_lines t) (line ∷ ended_lines t) → Judges s b a t
+pub judges : (s : LinesState) (b : Progress) (a : Feed) (line : List ℕ) (t : List ℕ) → Represents s t → s.progress.refusal ≡ None → (s.prefix_len ≡ 0 → ⊥)
+    → line ≡ s.prefix → b.settings ≡ s.progress.settings
+    → ProgressRepresents b (line ∷ ended_lines t) → a ≡ answer s.progress.settings (ended_lines t) (line ∷ ended_lines t) → Judges s b a t
 judges s b a line t was none some is same r e =
-    let k = was.front none in
-    let ok : first_refusal s.book.settings (ended_lines t) ≡ None = sym was.lines.refusal ∙ none in
-    let filled : length (unfinished_line t) ≡ 0 → ⊥ = λ z. some (k.front_len ∙ z) in
-    let cases = front-cases (unfinished_line t) line (is ∙ k.front) in
+    let k = was.prefix none in
+    let ok : first_refusal s.progress.settings (ended_lines t) ≡ None = sym was.lines.refusal ∙ none in
+    let filled : length (unfinished_line t) ≡ 0 → ⊥ = λ z. some (k.prefix_len ∙ z) in
+    let cases = prefix-cases (unfinished_line t) line (is ∙ k.prefix) in
     record {
-      book = book-left b t line (rw same ok) filled cases r;
-      answer_is = e ∙ answer-left s.book.settings t line ok filled cases;
+      progress = progress-left b t line (rw same ok) filled cases r;
+      answer_is = e ∙ answer-left s.progress.settings t line ok filled cases;
     }
 
 -- a reader of a text is one of the whole text, until its end is told

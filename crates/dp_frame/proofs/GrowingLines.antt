@@ -11,7 +11,7 @@ use Rattle.dp_frame.specs.declared.fault.Refusal.{Refusal}
 use Rattle.dp_frame.specs.Line.{judge, time_of}
 use Rattle.dp_frame.specs.Frames.{IsBefore}
 use Rattle.dp_frame.specs.Record.{refusal_of, first_refusal, good_lines, entry_of, entries, last_time, last_cycle}
-use Rattle.dp_frame.specs.Books.{Follows}
+use Rattle.dp_frame.specs.Progresses.{Follows}
 use Rattle.dp_frame.proofs.JudgedLines.{judge-good, judge-blank, judge-filled}
 
 pub refusal-more : (p : Settings) (lines : List (List ℕ)) (line : List ℕ) (j : Judged) → first_refusal p lines ≡ None

@@ -10,7 +10,7 @@ use Rattle.dp_frame.specs.declared.fault.LineFault.{LineFault}
 use Rattle.dp_frame.specs.declared.fault.LineFault.TheVariants.{LongLine, NoTime, BadTime, TimeBack, NoWire}
 use Rattle.dp_frame.specs.declared.entry.Judged.{Judged}
 use Rattle.dp_frame.specs.declared.entry.Judged.TheVariants.{Blank, Good, Faulty, TooMany}
-use Rattle.dp_frame.specs.Senses.{sense_of}
+use Rattle.dp_frame.specs.Contents.{content_of}
 use Rattle.dp_frame.specs.Wires.{wire_of}
 use Rattle.dp_frame.specs.Line.{after_time, judge, judge_rest, judge_time, judge_wire, name_len, number_of, time_len, time_of}
 use Rattle.dp_frame.specs.Record.{entry_of}
@@ -30,7 +30,7 @@ judge_rest-good p t rest None e is = cc
 judge_rest-good p t rest (Some w) e is = by_test (nat_le (2 ^ 20) (t / p.cycle_ms)) is
   where
     by_test : (v : Bool)
-        → (if v then TooMany (t / p.cycle_ms) else Good record { time = t; cycle = t / p.cycle_ms; wire = w; sense = sense_of p w rest }) ≡ Good e
+        → (if v then TooMany (t / p.cycle_ms) else Good record { time = t; cycle = t / p.cycle_ms; wire = w; content = content_of p w rest }) ≡ Good e
         → (e.time ≡ t) × (e.cycle ≡ t / p.cycle_ms)
     by_test true is = cc
     by_test false is = (cc, cc)
@@ -93,7 +93,7 @@ judge_rest-filled p t rest None is = cc
 judge_rest-filled p t rest (Some w) is = by_test (nat_le (2 ^ 20) (t / p.cycle_ms)) is
   where
     by_test : (v : Bool)
-        → (if v then TooMany (t / p.cycle_ms) else Good record { time = t; cycle = t / p.cycle_ms; wire = w; sense = sense_of p w rest }) ≡ Blank → ⊥
+        → (if v then TooMany (t / p.cycle_ms) else Good record { time = t; cycle = t / p.cycle_ms; wire = w; content = content_of p w rest }) ≡ Blank → ⊥
     by_test true is = cc
     by_test false is = cc
 

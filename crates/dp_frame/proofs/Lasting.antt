@@ -8,7 +8,7 @@ use Rattle.dp_frame.specs.declared.fault.Refusal.{Refusal}
 use Rattle.dp_frame.specs.Line.{judge}
 use Rattle.dp_frame.specs.Frames.{frame_of}
 use Rattle.dp_frame.specs.Record.{first_refusal, entries, last_time, last_cycle, refusal_of}
-use Rattle.dp_frame.specs.Books.{Follows}
+use Rattle.dp_frame.specs.Progresses.{Follows}
 use Rattle.dp_frame.proofs.EmptyFrames.{frame-later}
 use Rattle.dp_frame.proofs.GrowingLines.{refusal-fewer, refusal-stays, entries-refused, entries-good, entries-blank, follows-good}
 

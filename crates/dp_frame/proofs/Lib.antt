@@ -4,7 +4,7 @@ pub mod JudgedLines
 pub mod EmptyFrames
 pub mod GrowingLines
 pub mod Entering
-pub mod BookSteps
+pub mod ProgressSteps
 pub mod FeedSteps
 pub mod FinishSteps
 pub mod Lasting

@@ -17,7 +17,7 @@ use Rattle.dp_plant.specs.declared.frames.Wire.TheVariants.{Pos, Gyro, Wind, Gro
 use Rattle.dp_frame.specs.declared.entry.Brought.{Brought}
 use Rattle.dp_frame.specs.declared.entry.Brought.TheVariants.{Reading, Damaged, Skipped}
 use Rattle.dp_frame.specs.declared.entry.Entry.{Entry}
-use Rattle.dp_frame.specs.declared.entry.Sense.{Sense}
+use Rattle.dp_frame.specs.declared.entry.Content.{Content}
 use Rattle.dp_frame.specs.Slots.{counted_slot, last_reading, slot_of, place_of, heading_of, gust_of, ready_of}
 use Rattle.dp_frame.specs.Frames.{slots_of, frame_of, is_pos, is_gyro, is_wind, is_group}
 
@@ -56,28 +56,28 @@ module _ {T : Type 0} where
   map-same f g (k ∷ ks) same = rw (same k, map-same f g ks same)
 
   -- a line that is on no wire of the kind, or of another cycle
-  pub slots-miss : (is_wire : ℕ → Wire → Bool) (brought : Sense → Brought T) (count n : ℕ) (e : Entry) (es : List Entry)
+  pub slots-miss : (is_wire : ℕ → Wire → Bool) (brought : Content → Brought T) (count n : ℕ) (e : Entry) (es : List Entry)
       → ((k : ℕ) → (is_wire k e.wire && e.cycle == n) ≡ false) → slots_of is_wire brought count n (e ∷ es) ≡ slots_of is_wire brought count n es
   unfolding slots_of
   slots-miss is_wire brought count n e es miss =
-      map-same _ _ (range_with_len 0 count) (λ k. slot-miss (λ x. is_wire k x.wire && x.cycle == n) (λ x. brought x.sense) e es (miss k))
+      map-same _ _ (range_with_len 0 count) (λ k. slot-miss (λ x. is_wire k x.wire && x.cycle == n) (λ x. brought x.content) e es (miss k))
 
   -- a line on wire i of the kind
-  pub slots-hit : (is_wire : ℕ → Wire → Bool) (brought : Sense → Brought T) (count i : ℕ) (e : Entry) (es : List Entry) (d : Slot T)
+  pub slots-hit : (is_wire : ℕ → Wire → Bool) (brought : Content → Brought T) (count i : ℕ) (e : Entry) (es : List Entry) (d : Slot T)
       → i < count → is_wire i e.wire ≡ true → ((k : ℕ) → k ≢ i → is_wire k e.wire ≡ false)
-      → slice_set (slots_of is_wire brought count e.cycle es) i (counted_slot (brought e.sense) (slice_index_or (slots_of is_wire brought count e.cycle es) i d))
+      → slice_set (slots_of is_wire brought count e.cycle es) i (counted_slot (brought e.content) (slice_index_or (slots_of is_wire brought count e.cycle es) i d))
       ≡ slots_of is_wire brought count e.cycle (e ∷ es)
   unfolding slots_of
   slots-hit is_wire brought count i e es d lt hit miss =
-      let old : ℕ → Slot T = λ k. slot_of (λ x. is_wire k x.wire && x.cycle == e.cycle) (λ x. brought x.sense) es in
-      let new : ℕ → Slot T = λ k. slot_of (λ x. is_wire k x.wire && x.cycle == e.cycle) (λ x. brought x.sense) (e ∷ es) in
+      let old : ℕ → Slot T = λ k. slot_of (λ x. is_wire k x.wire && x.cycle == e.cycle) (λ x. brought x.content) es in
+      let new : ℕ → Slot T = λ k. slot_of (λ x. is_wire k x.wire && x.cycle == e.cycle) (λ x. brought x.content) (e ∷ es) in
       let olds : List (Slot T) = map old (range_with_len 0 count) in
       let long : length olds ≡ count = length-map-range_with_len old 0 count in
-      let same : new i ≡ counted_slot (brought e.sense) (old i) = slot-hit _ _ e es (rw (hit, eq-eqb e.cycle e.cycle refl)) in
+      let same : new i ≡ counted_slot (brought e.content) (old i) = slot-hit _ _ e es (rw (hit, eq-eqb e.cycle e.cycle refl)) in
       let was : slice_index_or olds i d ≡ old i = get_or-map-range_with_len old 0 count i i d lt (zero-add i) in
-      fill_by_all new (slice_set olds i (counted_slot (brought e.sense) (slice_index_or olds i d))) count d (length-set olds i _ ∙ long)
+      fill_by_all new (slice_set olds i (counted_slot (brought e.content) (slice_index_or olds i d))) count d (length-set olds i _ ∙ long)
       (λ k below. elim (cases_eq k i) [
-        | inl is ↦ rw is (get_or-set_same olds i _ d (omega (arith, long, lt)) ∙ ap (counted_slot (brought e.sense)) was ∙ sym same)
+        | inl is ↦ rw is (get_or-set_same olds i _ d (omega (arith, long, lt)) ∙ ap (counted_slot (brought e.content)) was ∙ sym same)
         | inr other ↦ get_or-set_other olds i k _ d other ∙ get_or-map-range_with_len old 0 count k k d below (zero-add k) ∙ sym (slot-miss _ _ e es (rw (miss k other)))
       ])
 
@@ -90,7 +90,7 @@ other_number k i other = grind (arith, nat_tests)
 
 -- the frame of the line's cycle, with the line counted on its wire
 pub pos-noted : (e : Entry) (es : List Entry) (i : ℕ) (d : Slot Place) (frame : Frame) → e.wire ≡ Pos i → i < 3 → frame ≡ frame_of e.cycle es
-    → ◌≡◌ {A = Frame} (record frame { pos = slice_set frame.pos i (counted_slot (place_of e.sense) (slice_index_or frame.pos i d)) }) (frame_of e.cycle (e ∷ es))
+    → ◌≡◌ {A = Frame} (record frame { pos = slice_set frame.pos i (counted_slot (place_of e.content) (slice_index_or frame.pos i d)) }) (frame_of e.cycle (e ∷ es))
 unfolding frame_of
 pos-noted e es i d frame is lt was =
     rw was (same-frame e.cycle _ _ _ _ _ _ _ _
@@ -100,7 +100,7 @@ pos-noted e es i d frame is lt was =
     (sym (slots-miss is_group ready_of 8 e.cycle e es (λ k. rw is))))
 
 pub gyro-noted : (e : Entry) (es : List Entry) (i : ℕ) (d : Slot ℕ) (frame : Frame) → e.wire ≡ Gyro i → i < 3 → frame ≡ frame_of e.cycle es
-    → ◌≡◌ {A = Frame} (record frame { gyro = slice_set frame.gyro i (counted_slot (heading_of e.sense) (slice_index_or frame.gyro i d)) }) (frame_of e.cycle (e ∷ es))
+    → ◌≡◌ {A = Frame} (record frame { gyro = slice_set frame.gyro i (counted_slot (heading_of e.content) (slice_index_or frame.gyro i d)) }) (frame_of e.cycle (e ∷ es))
 unfolding frame_of
 gyro-noted e es i d frame is lt was =
     rw was (same-frame e.cycle _ _ _ _ _ _ _ _
@@ -110,7 +110,7 @@ gyro-noted e es i d frame is lt was =
     (sym (slots-miss is_group ready_of 8 e.cycle e es (λ k. rw is))))
 
 pub wind-noted : (e : Entry) (es : List Entry) (i : ℕ) (d : Slot Gust) (frame : Frame) → e.wire ≡ Wind i → i < 3 → frame ≡ frame_of e.cycle es
-    → ◌≡◌ {A = Frame} (record frame { wind = slice_set frame.wind i (counted_slot (gust_of e.sense) (slice_index_or frame.wind i d)) }) (frame_of e.cycle (e ∷ es))
+    → ◌≡◌ {A = Frame} (record frame { wind = slice_set frame.wind i (counted_slot (gust_of e.content) (slice_index_or frame.wind i d)) }) (frame_of e.cycle (e ∷ es))
 unfolding frame_of
 wind-noted e es i d frame is lt was =
     rw was (same-frame e.cycle _ _ _ _ _ _ _ _
@@ -120,7 +120,7 @@ wind-noted e es i d frame is lt was =
     (sym (slots-miss is_group ready_of 8 e.cycle e es (λ k. rw is))))
 
 pub group-noted : (e : Entry) (es : List Entry) (i : ℕ) (d : Slot Bool) (frame : Frame) → e.wire ≡ Group i → i < 8 → frame ≡ frame_of e.cycle es
-    → ◌≡◌ {A = Frame} (record frame { group = slice_set frame.group i (counted_slot (ready_of e.sense) (slice_index_or frame.group i d)) }) (frame_of e.cycle (e ∷ es))
+    → ◌≡◌ {A = Frame} (record frame { group = slice_set frame.group i (counted_slot (ready_of e.content) (slice_index_or frame.group i d)) }) (frame_of e.cycle (e ∷ es))
 unfolding frame_of
 group-noted e es i d frame is lt was =
     rw was (same-frame e.cycle _ _ _ _ _ _ _ _

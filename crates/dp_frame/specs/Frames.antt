@@ -7,7 +7,7 @@ use Rattle.dp_plant.specs.declared.frames.Wire.{Wire}
 use Rattle.dp_plant.specs.declared.frames.Wire.TheVariants.{Pos, Gyro, Wind, Group}
 use Rattle.dp_frame.specs.declared.entry.Brought.{Brought}
 use Rattle.dp_frame.specs.declared.entry.Entry.{Entry}
-use Rattle.dp_frame.specs.declared.entry.Sense.{Sense}
+use Rattle.dp_frame.specs.declared.entry.Content.{Content}
 use Rattle.dp_frame.specs.Slots.{slot_of, no_slot, place_of, heading_of, gust_of, ready_of}
 
 -- the wire is number i of its kind
@@ -29,9 +29,9 @@ is_group i other = false
 
 module _ {T : Type 0} where
   -- the slots of cycle n for the first `count` wires of a kind
-  unfoldable pub slots_of : (ℕ → Wire → Bool) → (Sense → Brought T) → ℕ → ℕ → List Entry → List (Slot T)
+  unfoldable pub slots_of : (ℕ → Wire → Bool) → (Content → Brought T) → ℕ → ℕ → List Entry → List (Slot T)
   slots_of is_wire brought count n entries =
-      map (λ i. slot_of (λ e. is_wire i e.wire && e.cycle == n) (λ e. brought e.sense) entries) (range_with_len 0 count)
+      map (λ i. slot_of (λ e. is_wire i e.wire && e.cycle == n) (λ e. brought e.content) entries) (range_with_len 0 count)
 
 -- the frame of cycle n
 unfoldable pub frame_of : ℕ → List Entry → Frame

@@ -41,8 +41,8 @@ FramesLast =
     × (frame_of n (entries p (all_lines (text ++ more))) ≡ frame_of n (entries p (ended_lines text)))
 
 -- so the frames that are over are the first ones of the whole record
-abbrev pub FrontOfRecord : Type 0
-FrontOfRecord =
+abbrev pub PrefixOfRecord : Type 0
+PrefixOfRecord =
     (p : Settings) (text more : List ℕ) → 0 < p.cycle_ms
     → take (length (frames_so_far p (ended_lines text))) (record_frames p (all_lines (text ++ more))) ≡ frames_so_far p (ended_lines text)
 

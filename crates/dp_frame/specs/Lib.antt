@@ -2,11 +2,11 @@ pub mod LocalFrame
 pub mod Slots
 pub mod Frames
 pub mod Wires
-pub mod Senses
+pub mod Contents
 pub mod Line
 pub mod Record
 pub mod Feeds
-pub mod Books
+pub mod Progresses
 pub mod LinesState
 pub mod Represents
 pub mod Cycles

@@ -9,7 +9,7 @@ use Rattle.dp_frame.specs.declared.entry.Judged.{Judged}
 use Rattle.dp_frame.specs.declared.entry.Judged.TheVariants.{Blank, Good, Faulty, TooMany}
 use Rattle.dp_frame.specs.declared.fault.LineFault.TheVariants.{LongLine, NoTime, BadTime, TimeBack, NoWire, UnknownWire}
 use Rattle.dp_frame.specs.Wires.{wire_of}
-use Rattle.dp_frame.specs.Senses.{sense_of}
+use Rattle.dp_frame.specs.Contents.{content_of}
 
 -- how many digits a line begins with
 abbrev pub time_len : List ℕ → ℕ
@@ -36,7 +36,7 @@ unfoldable pub judge_rest : Settings → ℕ → List ℕ → Option Wire → Ju
 judge_rest p time rest None = Faulty UnknownWire
 judge_rest p time rest (Some wire) =
     if nat_le (2 ^ 20) (time / p.cycle_ms) then TooMany (time / p.cycle_ms)
-    else Good record { time = time; cycle = time / p.cycle_ms; wire = wire; sense = sense_of p wire rest }
+    else Good record { time = time; cycle = time / p.cycle_ms; wire = wire; content = content_of p wire rest }
 
 -- what stands after the time: the wire's name, a space, the rest
 unfoldable pub judge_wire : Settings → ℕ → List ℕ → Judged

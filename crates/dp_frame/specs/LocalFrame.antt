@@ -2,7 +2,7 @@
 -- Latitudes and longitudes are in 10^-7 minutes, north and east above 0.
 use Rattle.std.specs.Prelude.{◌≡◌, ℕ, ◌/◌, ◌^◌, ◌≤◌, Bool, ◌&&◌, nat_le, if◌then◌else◌, ℤ, pos, ◌-ℤ◌, ◌*ℤ◌, unsigned_abs, Option, Some, None}
 use Rattle.dp_fixed.specs.Division.{floor_of}
-use Rattle.dp_fixed.specs.Scale.{one}
+use Rattle.dp_fixed.specs.Scale.{full_scale}
 use Rattle.dp_fixed.specs.Turns.{wrap_of}
 use Rattle.dp_trig.specs.SinePair.{pair_of}
 use Rattle.dp_plant.specs.declared.place.Place.{Place}
@@ -31,7 +31,7 @@ northing lat0 lat = arc_length *ℤ (lat -ℤ lat0)
 
 -- how far a longitude is east of the origin's, the short way round, where a parallel of latitude has this cosine; rounded down
 abbrev pub easting : ℤ → ℤ → ℤ → ℤ
-easting cosine lon0 lon = floor_of (cosine *ℤ (arc_length *ℤ wrap_of (lon -ℤ lon0) whole_turn)) one
+easting cosine lon0 lon = floor_of (cosine *ℤ (arc_length *ℤ wrap_of (lon -ℤ lon0) whole_turn)) full_scale
 
 -- a coordinate of the frame lies within 2^43 nm of the origin, about 8.8 km
 abbrev pub is_in_frame : ℤ → Bool

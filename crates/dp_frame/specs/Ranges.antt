@@ -7,8 +7,8 @@ use Rattle.dp_plant.specs.FrameRanges.{IsFrameWithin}
 use Rattle.dp_frame.specs.declared.entry.Entry.{Entry}
 use Rattle.dp_frame.specs.declared.entry.Judged.{Judged}
 use Rattle.dp_frame.specs.declared.entry.Judged.TheVariants.{Good}
-use Rattle.dp_frame.specs.declared.entry.Sense.{Sense}
-use Rattle.dp_frame.specs.declared.entry.Sense.TheVariants.{At, Heading, Wind}
+use Rattle.dp_frame.specs.declared.entry.Content.{Content}
+use Rattle.dp_frame.specs.declared.entry.Content.TheVariants.{At, Heading, Wind}
 use Rattle.dp_frame.specs.declared.feed.Feed.{Feed}
 use Rattle.dp_frame.specs.declared.feed.Feed.TheVariants.{Closed}
 use Rattle.dp_frame.specs.Wires.{IsWire}
@@ -17,17 +17,17 @@ use Rattle.dp_frame.specs.Wires.{IsWire}
 abbrev pub IsGustWithin : Gust → Type 0
 IsGustWithin gust = (gust.angle < 36000) × (gust.speed < 100000)
 
-abbrev pub IsSenseWithin : Sense → Type 0
-IsSenseWithin (At place) = IsVectorWithin (2 ^ 43) place
-IsSenseWithin (Heading heading) = heading < 36000
-IsSenseWithin (Wind gust) = IsGustWithin gust
-IsSenseWithin other = ⊤
+abbrev pub IsContentWithin : Content → Type 0
+IsContentWithin (At place) = IsVectorWithin (2 ^ 43) place
+IsContentWithin (Heading heading) = heading < 36000
+IsContentWithin (Wind gust) = IsGustWithin gust
+IsContentWithin other = ⊤
 
 -- an entry on a wire of a plant with so many groups
 pub record IsEntryWithin (groups : ℕ) (e : Entry) : Type 0 where
   pub cycle : e.cycle < 2 ^ 20
   pub wire : IsWire groups e.wire
-  pub sense : IsSenseWithin e.sense
+  pub content : IsContentWithin e.content
 
 abbrev pub IsJudgedWithin : ℕ → Judged → Type 0
 IsJudgedWithin groups (Good e) = IsEntryWithin groups e

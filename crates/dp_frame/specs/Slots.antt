@@ -6,28 +6,28 @@ use Rattle.dp_plant.specs.declared.frames.Slot.{Slot}
 use Rattle.dp_frame.specs.declared.entry.Brought.{Brought}
 use Rattle.dp_frame.specs.declared.entry.Brought.TheVariants.{Reading, Damaged, Skipped}
 use Rattle.dp_frame.specs.declared.entry.Entry.{Entry}
-use Rattle.dp_frame.specs.declared.entry.Sense.{Sense}
-use Rattle.dp_frame.specs.declared.entry.Sense.TheVariants as sense
+use Rattle.dp_frame.specs.declared.entry.Content.{Content}
+use Rattle.dp_frame.specs.declared.entry.Content.TheVariants as content
 
 -- what a line brings for a slot of places, and for one of headings, of winds, and of groups' states: a reading of another kind is none
-abbrev pub place_of : Sense → Brought Place
-place_of (sense.At place) = Reading place
-place_of sense.Damaged = Damaged
+abbrev pub place_of : Content → Brought Place
+place_of (content.At place) = Reading place
+place_of content.Damaged = Damaged
 place_of other = Skipped
 
-abbrev pub heading_of : Sense → Brought ℕ
-heading_of (sense.Heading heading) = Reading heading
-heading_of sense.Damaged = Damaged
+abbrev pub heading_of : Content → Brought ℕ
+heading_of (content.Heading heading) = Reading heading
+heading_of content.Damaged = Damaged
 heading_of other = Skipped
 
-abbrev pub gust_of : Sense → Brought Gust
-gust_of (sense.Wind gust) = Reading gust
-gust_of sense.Damaged = Damaged
+abbrev pub gust_of : Content → Brought Gust
+gust_of (content.Wind gust) = Reading gust
+gust_of content.Damaged = Damaged
 gust_of other = Skipped
 
-abbrev pub ready_of : Sense → Brought Bool
-ready_of (sense.Ready ready) = Reading ready
-ready_of sense.Damaged = Damaged
+abbrev pub ready_of : Content → Brought Bool
+ready_of (content.Ready ready) = Reading ready
+ready_of content.Damaged = Damaged
 ready_of other = Skipped
 
 module _ {T : Type 0} where

@@ -6,7 +6,7 @@ use dp_plant::{Gust, Place, Wire};
 
 /// What a line brings for its wire: a reading, damage, or nothing, where it is skipped.
 #[derive(Clone, Copy)]
-pub enum Sense {
+pub enum Content {
     At(Place),
     Heading(u32),
     Wind(Gust),
@@ -30,7 +30,7 @@ pub struct Entry {
     pub time: u64,
     pub cycle: u64,
     pub wire: Wire,
-    pub sense: Sense,
+    pub content: Content,
 }
 
 /// The judgement on one line.
@@ -43,13 +43,13 @@ pub enum Judged {
     TooMany { cycle: u64 },
 }
 
-impl Sense {
+impl Content {
     pub(crate) fn place(self) -> Brought<Place>
         ensures { result ≡ place_of self }
     {
         match self {
-            Sense::At(place) => Brought::Reading(place),
-            Sense::Damaged => Brought::Damaged,
+            Content::At(place) => Brought::Reading(place),
+            Content::Damaged => Brought::Damaged,
             _ => Brought::Skipped,
         }
     }
@@ -58,8 +58,8 @@ impl Sense {
         ensures { result ≡ heading_of self }
     {
         match self {
-            Sense::Heading(heading) => Brought::Reading(heading),
-            Sense::Damaged => Brought::Damaged,
+            Content::Heading(heading) => Brought::Reading(heading),
+            Content::Damaged => Brought::Damaged,
             _ => Brought::Skipped,
         }
     }
@@ -68,8 +68,8 @@ impl Sense {
         ensures { result ≡ gust_of self }
     {
         match self {
-            Sense::Wind(gust) => Brought::Reading(gust),
-            Sense::Damaged => Brought::Damaged,
+            Content::Wind(gust) => Brought::Reading(gust),
+            Content::Damaged => Brought::Damaged,
             _ => Brought::Skipped,
         }
     }
@@ -78,8 +78,8 @@ impl Sense {
         ensures { result ≡ ready_of self }
     {
         match self {
-            Sense::Ready(ready) => Brought::Reading(ready),
-            Sense::Damaged => Brought::Damaged,
+            Content::Ready(ready) => Brought::Reading(ready),
+            Content::Damaged => Brought::Damaged,
             _ => Brought::Skipped,
         }
     }

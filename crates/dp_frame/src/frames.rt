@@ -58,18 +58,18 @@ pub(crate) fn note(frame: &mut Frame, entry: &Entry)
     ensures cycle { frame.new.cycle ≡ frame.old.cycle }
 {
     match entry.wire {
-        Wire::Pos(i) => frame.pos[i as usize] = counted(frame.pos[i as usize], entry.sense.place()),
+        Wire::Pos(i) => frame.pos[i as usize] = counted(frame.pos[i as usize], entry.content.place()),
         Wire::Gyro(i) => frame.gyro[i as usize] = counted(
             frame.gyro[i as usize],
-            entry.sense.heading(),
+            entry.content.heading(),
         ),
         Wire::Wind(i) => frame.wind[i as usize] = counted(
             frame.wind[i as usize],
-            entry.sense.gust(),
+            entry.content.gust(),
         ),
         Wire::Group(i) => frame.group[i as usize] = counted(
             frame.group[i as usize],
-            entry.sense.ready(),
+            entry.content.ready(),
         ),
     }
 }

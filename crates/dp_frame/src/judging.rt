@@ -1,13 +1,13 @@
 //! The judgement on one line.
 ghost use Rattle.std.specs.Prelude.{◌≡◌, ◌≤◌, length, IfSome};
-ghost use Rattle.dp_frame.specs.Books.{IsReadable};
+ghost use Rattle.dp_frame.specs.Progresses.{IsReadable};
 ghost use Rattle.dp_frame.specs.Ranges.{IsJudgedWithin};
 ghost use Rattle.dp_frame.specs.Line.{judge, judge_rest, judge_time, judge_wire, name_len, number_of, time_len};
 ghost use Rattle.dp_frame.specs.Wires.{IsWire};
 
 use crate::LineFault;
 use crate::entry::{Entry, Judged};
-use crate::sensing::sense;
+use crate::sensing::content;
 use crate::settings::Settings;
 use crate::wires::wire;
 use dp_plant::Wire;
@@ -65,7 +65,7 @@ fn judge_rest(settings: &Settings, time: u64, rest: &[u8], wire: Option<Wire>) -
         time,
         cycle,
         wire,
-        sense: sense(settings, wire, rest),
+        content: content(settings, wire, rest),
     })
 }
 

@@ -1,6 +1,6 @@
 //! What holds of every record: each function's contract is the law.
 ghost use Rattle.dp_frame.specs.Laws.{AnswersGive, ClosedIsNext, FeedGives, FinishGives, FinishGivesAll};
-ghost use Rattle.dp_frame.specs.Laws.{FramesLast, FrontOfRecord, RefusalLasts, ToldIsFirst};
+ghost use Rattle.dp_frame.specs.Laws.{FramesLast, PrefixOfRecord, RefusalLasts, ToldIsFirst};
 
 /// Each byte adds to the frames that are over just those that it is answered: the frame that it closes and the empty ones behind it.
 pub fn feed_gives()
@@ -28,8 +28,8 @@ pub fn frames_last()
 {}
 
 /// The frames that are over are the first ones of the whole record, however it goes on.
-pub fn front_of_record()
-    ensures { FrontOfRecord }
+pub fn prefix_of_record()
+    ensures { PrefixOfRecord }
 {}
 
 /// The first line that can't be taken stays the first, however the text goes on, and ends the record.

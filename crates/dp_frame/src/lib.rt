@@ -42,7 +42,7 @@
 //! Not proved: that no call takes memory, and that each byte is looked at a fixed number of times.
 #![tactic(auto)]
 
-mod book;
+mod progress;
 mod entry;
 mod fault;
 mod feed;

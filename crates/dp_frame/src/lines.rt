@@ -6,7 +6,7 @@ ghost use Rattle.dp_frame.specs.Ranges.{IsFeedInRange};
 ghost use Rattle.dp_frame.specs.LocalFrame.{IsOrigin, origin_of};
 ghost use Rattle.dp_frame.specs.Represents.{IsOpen, Represents, RepresentsWhole, settings_of};
 
-use crate::book::Book;
+use crate::progress::Progress;
 use crate::frames::empty_frame;
 use crate::settings::Settings;
 use crate::{Feed, Origin, Phase};
@@ -22,9 +22,9 @@ const LINE_FEED: u8 = b'\n';
 /// It keeps no text but the first 193 bytes of the line that hasn't ended, and takes no memory.
 #[derive(Drop)]
 pub struct Lines {
-    book: Book,
-    front: ArrayVec<u8, 193>,
-    front_len: u64,
+    progress: Progress,
+    prefix: ArrayVec<u8, 193>,
+    prefix_len: u64,
     bytes: u64,
     phase: Phase,
 }
@@ -34,10 +34,10 @@ impl Model for Lines {
 
     ghost Value = { LinesState };
 
-    ghost view = { λ l. record { book = l.book; front = l.front.items; front_len = l.front_len; bytes = l.bytes; phase = l.phase } };
+    ghost view = { λ l. record { progress = l.progress; prefix = l.prefix.items; prefix_len = l.prefix_len; bytes = l.bytes; phase = l.phase } };
 
     ghost invariant = { λ l. IsSoundState
-        record { book = l.book; front = l.front.items; front_len = l.front_len; bytes = l.bytes; phase = l.phase } };
+        record { progress = l.progress; prefix = l.prefix.items; prefix_len = l.prefix_len; bytes = l.bytes; phase = l.phase } };
 }
 
 /// The line without the one carriage return at its end.
@@ -51,21 +51,21 @@ fn strip(line: &[u8]) -> &[u8]
 }
 
 /// Keeps the next byte, where there is room.
-fn keep(front: &mut ArrayVec<u8, 193>, byte: u8)
-    ensures kept { length front.old.items ≤ 193 → front.new.items ≡ take 193 (front.old.items ++ byte ∷ []) }
-    ensures short { length front.old.items ≤ 193 → length front.new.items ≤ 193 }
+fn keep(prefix: &mut ArrayVec<u8, 193>, byte: u8)
+    ensures kept { length prefix.old.items ≤ 193 → prefix.new.items ≡ take 193 (prefix.old.items ++ byte ∷ []) }
+    ensures short { length prefix.old.items ≤ 193 → length prefix.new.items ≤ 193 }
 {
-    if front.len() < 193 {
-        front.push(byte);
+    if prefix.len() < 193 {
+        prefix.push(byte);
     }
 }
 
 /// The line to judge: one of more than 193 bytes is too long with and without a carriage return.
-fn whole(front: &[u8], front_len: u64) -> &[u8]
-    ensures short { front_len ≤ 193 → result.now ≡ stripped front.now }
-    ensures long { 193 < front_len → result.now ≡ front.now }
+fn whole(prefix: &[u8], prefix_len: u64) -> &[u8]
+    ensures short { prefix_len ≤ 193 → result.now ≡ stripped prefix.now }
+    ensures long { 193 < prefix_len → result.now ≡ prefix.now }
 {
-    if front_len > 193 { front } else { strip(front) }
+    if prefix_len > 193 { prefix } else { strip(prefix) }
 }
 
 impl Lines {
@@ -77,12 +77,12 @@ impl Lines {
         requires groups { plant.now.groups ≤ 8 }
         requires origin { IsOrigin (origin_of plant.now) }
         ensures represents { Represents result [] }
-        ensures settings { result.book.settings ≡ settings_of plant.now }
+        ensures settings { result.progress.settings ≡ settings_of plant.now }
         ensures open { IsOpen result }
-        ensures first { result.book.kept.cycle ≡ 0 }
+        ensures first { result.progress.kept.cycle ≡ 0 }
     {
         Lines {
-            book: Book {
+            progress: Progress {
                 settings: Settings {
                     cycle_ms: plant.cycle_ms,
                     groups: plant.groups,
@@ -94,8 +94,8 @@ impl Lines {
                 begun: false,
                 kept: empty_frame(0),
             },
-            front: ArrayVec::new(),
-            front_len: 0,
+            prefix: ArrayVec::new(),
+            prefix_len: 0,
             bytes: 0,
             phase: Phase::Open,
         }
@@ -113,18 +113,18 @@ impl Lines {
         requires open { IsOpen self.old }
         requires few { self.old.bytes < 2 ^ 40 }
         ensures represents { (text : List ℕ) → Represents self.old text → Represents self.new (text ++ byte ∷ []) }
-        ensures answer { (text : List ℕ) → Represents self.old text → result ≡ answer_to self.old.book.settings text byte }
+        ensures answer { (text : List ℕ) → Represents self.old text → result ≡ answer_to self.old.progress.settings text byte }
 
         // The frame that is closed is of the kept frame's cycle, and the next kept one follows it and the empty ones.
-        ensures range { IsFeedInRange self.old.book.settings.groups result }
-        ensures closes { ClosesCycle self.old.book.kept.cycle result }
-        ensures next { self.new.book.kept.cycle ≡ self.old.book.kept.cycle + length (given result) }
+        ensures range { IsFeedInRange self.old.progress.settings.groups result }
+        ensures closes { ClosesCycle self.old.progress.kept.cycle result }
+        ensures next { self.new.progress.kept.cycle ≡ self.old.progress.kept.cycle + length (given result) }
 
         ensures bytes { self.new.bytes ≡ self.old.bytes + 1 }
-        ensures settings { self.new.book.settings ≡ self.old.book.settings }
+        ensures settings { self.new.progress.settings ≡ self.old.progress.settings }
         ensures open { IsOpen self.new }
     {
-        if let Some(refusal) = self.book.refusal {
+        if let Some(refusal) = self.progress.refusal {
             self.bytes += 1;
             return refusal.told();
         }
@@ -132,8 +132,8 @@ impl Lines {
             return self.end_line();
         }
         self.bytes += 1;
-        self.front_len += 1;
-        keep(&mut self.front, byte);
+        self.prefix_len += 1;
+        keep(&mut self.prefix, byte);
         Feed::More
     }
 
@@ -141,20 +141,20 @@ impl Lines {
     fn end_line(&mut self) -> Feed
         requires open { IsOpen self.old }
         requires few { self.old.bytes < 2 ^ 40 }
-        requires going { self.old.book.refusal ≡ None }
+        requires going { self.old.progress.refusal ≡ None }
         ensures represents { (text : List ℕ) → Represents self.old text → Represents self.new (text ++ 10 ∷ []) }
-        ensures answer { (text : List ℕ) → Represents self.old text → result ≡ answer_to self.old.book.settings text 10 }
-        ensures range { IsFeedInRange self.old.book.settings.groups result }
-        ensures closes { ClosesCycle self.old.book.kept.cycle result }
-        ensures next { self.new.book.kept.cycle ≡ self.old.book.kept.cycle + length (given result) }
+        ensures answer { (text : List ℕ) → Represents self.old text → result ≡ answer_to self.old.progress.settings text 10 }
+        ensures range { IsFeedInRange self.old.progress.settings.groups result }
+        ensures closes { ClosesCycle self.old.progress.kept.cycle result }
+        ensures next { self.new.progress.kept.cycle ≡ self.old.progress.kept.cycle + length (given result) }
         ensures bytes { self.new.bytes ≡ self.old.bytes + 1 }
-        ensures settings { self.new.book.settings ≡ self.old.book.settings }
+        ensures settings { self.new.progress.settings ≡ self.old.progress.settings }
         ensures open_still { IsOpen self.new }
     {
         self.bytes += 1;
-        let answer = self.book.line(whole(self.front.as_slice(), self.front_len));
-        self.front.clear();
-        self.front_len = 0;
+        let answer = self.progress.line(whole(self.prefix.as_slice(), self.prefix_len));
+        self.prefix.clear();
+        self.prefix_len = 0;
         answer
     }
 
@@ -163,25 +163,25 @@ impl Lines {
     /// be taken it names that line again and again, and gives no last frame.
     pub fn finish(&mut self) -> Feed
         ensures represents { (text : List ℕ) → RepresentsWhole self.old text → RepresentsWhole self.new text }
-        ensures answer { (text : List ℕ) → RepresentsWhole self.old text → result ≡ ending self.old.book.settings text self.old.phase }
-        ensures phase { (text : List ℕ) → RepresentsWhole self.old text → first_refusal self.old.book.settings (all_lines text) ≡ None
-            → self.new.phase ≡ phase_after self.old.book.settings text self.old.phase }
+        ensures answer { (text : List ℕ) → RepresentsWhole self.old text → result ≡ ending self.old.progress.settings text self.old.phase }
+        ensures phase { (text : List ℕ) → RepresentsWhole self.old text → first_refusal self.old.progress.settings (all_lines text) ≡ None
+            → self.new.phase ≡ phase_after self.old.progress.settings text self.old.phase }
 
         // A frame is closed at most twice: by the last line, and as the last frame.
         ensures fewer { is_closed result ≡ true → calls_left self.new.phase < calls_left self.old.phase }
-        ensures range { IsFeedInRange self.old.book.settings.groups result }
-        ensures closes { ClosesCycle self.old.book.kept.cycle result }
-        ensures next { self.new.phase ≢ Phase.Done → self.new.book.kept.cycle ≡ self.old.book.kept.cycle + length (given result) }
-        ensures settings { self.new.book.settings ≡ self.old.book.settings }
+        ensures range { IsFeedInRange self.old.progress.settings.groups result }
+        ensures closes { ClosesCycle self.old.progress.kept.cycle result }
+        ensures next { self.new.phase ≢ Phase.Done → self.new.progress.kept.cycle ≡ self.old.progress.kept.cycle + length (given result) }
+        ensures settings { self.new.progress.settings ≡ self.old.progress.settings }
     {
-        if let Some(refusal) = self.book.refusal {
+        if let Some(refusal) = self.progress.refusal {
             return refusal.told();
         }
         match self.phase {
             Phase::Open => self.last_line(),
             Phase::Last => {
                 self.phase = Phase::Done;
-                self.book.last_frame()
+                self.progress.last_frame()
             }
             Phase::Done => Feed::More,
         }
@@ -190,26 +190,26 @@ impl Lines {
     /// Judges the unfinished line, and answers what it brings to an end, or the last frame where it brings nothing.
     fn last_line(&mut self) -> Feed
         requires open { IsOpen self.old }
-        requires going { self.old.book.refusal ≡ None }
+        requires going { self.old.progress.refusal ≡ None }
         ensures represents { (text : List ℕ) → Represents self.old text → RepresentsWhole self.new text }
-        ensures answer { (text : List ℕ) → Represents self.old text → result ≡ ending self.old.book.settings text Phase.Open }
-        ensures phase { (text : List ℕ) → Represents self.old text → first_refusal self.old.book.settings (all_lines text) ≡ None
-            → self.new.phase ≡ phase_after self.old.book.settings text Phase.Open }
+        ensures answer { (text : List ℕ) → Represents self.old text → result ≡ ending self.old.progress.settings text Phase.Open }
+        ensures phase { (text : List ℕ) → Represents self.old text → first_refusal self.old.progress.settings (all_lines text) ≡ None
+            → self.new.phase ≡ phase_after self.old.progress.settings text Phase.Open }
         ensures fewer { calls_left self.new.phase < 2 }
-        ensures range { IsFeedInRange self.old.book.settings.groups result }
-        ensures closes { ClosesCycle self.old.book.kept.cycle result }
-        ensures next { self.new.phase ≢ Phase.Done → self.new.book.kept.cycle ≡ self.old.book.kept.cycle + length (given result) }
-        ensures settings { self.new.book.settings ≡ self.old.book.settings }
+        ensures range { IsFeedInRange self.old.progress.settings.groups result }
+        ensures closes { ClosesCycle self.old.progress.kept.cycle result }
+        ensures next { self.new.phase ≢ Phase.Done → self.new.progress.kept.cycle ≡ self.old.progress.kept.cycle + length (given result) }
+        ensures settings { self.new.progress.settings ≡ self.old.progress.settings }
     {
-        if self.front_len == 0 {
+        if self.prefix_len == 0 {
             self.phase = Phase::Done;
-            return self.book.last_frame();
+            return self.progress.last_frame();
         }
-        self.front_len = 0;
-        let answer = self.book.line(self.front.as_slice());
+        self.prefix_len = 0;
+        let answer = self.progress.line(self.prefix.as_slice());
         if let Feed::More = answer {
             self.phase = Phase::Done;
-            return self.book.last_frame();
+            return self.progress.last_frame();
         }
         self.phase = Phase::Last;
         answer

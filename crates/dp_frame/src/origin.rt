@@ -4,7 +4,7 @@ ghost use Rattle.dp_plant.specs.Ranges.{IsVectorWithin};
 ghost use Rattle.dp_frame.specs.LocalFrame as LocalFrame;
 ghost use Rattle.dp_frame.specs.LocalFrame.{IsCosineAt, IsOrigin, local_of, origin_of};
 
-use dp_fixed::{Q, difference, floor_div, narrow, scaled, wrap};
+use dp_fixed::{Q, difference, floor_div, narrow, product, wrap};
 use dp_plant::{Place, Plant};
 use dp_trig::Trig;
 use std::marker::Model;
@@ -57,7 +57,7 @@ fn cosine_of(lat: i64, trig: &Trig) -> i64
 fn northing(lat0: i64, lat: i64) -> i128
     ensures { result ≡ LocalFrame.northing lat0 lat }
 {
-    scaled(ARC_LENGTH, difference(lat as i128, lat0 as i128))
+    product(ARC_LENGTH, difference(lat as i128, lat0 as i128))
 }
 
 /// How far `lon` is east of `lon0` along a parallel whose cosine this is.
@@ -66,7 +66,7 @@ fn easting(cosine: i64, lon0: i64, lon: i64) -> i128
     ensures { result ≡ LocalFrame.easting cosine lon0 lon }
 {
     let minutes = wrap(difference(lon as i128, lon0 as i128), WHOLE_TURN);
-    floor_div(scaled(cosine, scaled(ARC_LENGTH, minutes)), Q)
+    floor_div(product(cosine, product(ARC_LENGTH, minutes)), Q)
 }
 
 /// The place with these coordinates, if both lie in the frame.

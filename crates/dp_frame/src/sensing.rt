@@ -2,11 +2,11 @@
 ghost use Rattle.std.specs.Prelude.{◌≡◌, IfOk};
 ghost use Rattle.dp_nav.specs.Plain.{is_plain};
 ghost use Rattle.dp_nav.specs.ReadingRanges.{IsReadingWithin};
-ghost use Rattle.dp_frame.specs.Ranges.{IsSenseWithin};
-ghost use Rattle.dp_frame.specs.Senses.{kind_of, sense_by, sense_of};
+ghost use Rattle.dp_frame.specs.Ranges.{IsContentWithin};
+ghost use Rattle.dp_frame.specs.Contents.{kind_of, content_by, content_of};
 
 use crate::Origin;
-use crate::entry::Sense;
+use crate::entry::Content;
 use crate::settings::Settings;
 use dp_nav::{Reading, Skip, WireKind, plain, sensed};
 use dp_plant::{Place, Wire};
@@ -33,36 +33,36 @@ fn is_plain(rest: &[u8]) -> bool
 }
 
 /// What a reading brings, in the local frame round an origin.
-fn sense_by(origin: &Origin, said: Result<Reading, Skip>) -> Sense
+fn content_by(origin: &Origin, said: Result<Reading, Skip>) -> Content
     requires { IfOk said IsReadingWithin }
-    ensures value { result ≡ sense_by origin.now said }
-    ensures within { IsSenseWithin result }
+    ensures value { result ≡ content_by origin.now said }
+    ensures within { IsContentWithin result }
 {
     match said {
         Ok(Reading::Fix { lat, lon }) => match origin.local(lat, lon) {
-            Some(place) => Sense::At(place),
-            None => Sense::Skipped,
+            Some(place) => Content::At(place),
+            None => Content::Skipped,
         },
-        Ok(Reading::Local { north, east }) => Sense::At(Place { north, east }),
-        Ok(Reading::Heading(heading)) => Sense::Heading(heading),
-        Ok(Reading::Wind(gust)) => Sense::Wind(gust),
-        Ok(Reading::Group(ready)) => Sense::Ready(ready),
-        Err(_) => Sense::Skipped,
+        Ok(Reading::Local { north, east }) => Content::At(Place { north, east }),
+        Ok(Reading::Heading(heading)) => Content::Heading(heading),
+        Ok(Reading::Wind(gust)) => Content::Wind(gust),
+        Ok(Reading::Group(ready)) => Content::Ready(ready),
+        Err(_) => Content::Skipped,
     }
 }
 
 /// What a line brings for its wire, by what stands after the wire.
-#[tactic(auto, unfolding(crate::specs::Senses::sense_of))]
-pub(crate) fn sense(settings: &Settings, wire: Wire, rest: &[u8]) -> Sense
-    ensures value { result ≡ sense_of settings.now wire rest.now }
-    ensures within { IsSenseWithin result }
+#[tactic(auto, unfolding(crate::specs::Contents::content_of))]
+pub(crate) fn content(settings: &Settings, wire: Wire, rest: &[u8]) -> Content
+    ensures value { result ≡ content_of settings.now wire rest.now }
+    ensures within { IsContentWithin result }
 {
     let kind = kind_of(wire);
     if is_plain(rest) {
-        return sense_by(&settings.origin, plain(kind, rest));
+        return content_by(&settings.origin, plain(kind, rest));
     }
     match dp_sentence::read(rest) {
-        Ok(sentence) => sense_by(&settings.origin, sensed(kind, &sentence)),
-        Err(_) => Sense::Damaged,
+        Ok(sentence) => content_by(&settings.origin, sensed(kind, &sentence)),
+        Err(_) => Content::Damaged,
     }
 }

@@ -86,7 +86,7 @@ pub(crate) fn number(digits: &[u8]) -> u64
 }
 
 /// The first `k` bytes, or all where there are fewer.
-fn front(text: &[u8], k: usize) -> &[u8]
+fn prefix(text: &[u8], k: usize) -> &[u8]
     ensures value { result.now ≡ take k text.now }
     ensures few { length result.now ≤ k }
 {
@@ -100,6 +100,6 @@ pub(crate) fn kept(decimals: &[u8], k: usize) -> u64
     ensures value { result ≡ Decimals.kept k decimals.now }
     ensures bound { result < 10 ^ k }
 {
-    let front = front(decimals, k);
-    number(front) * 10u64.pow((k - front.len()) as u32)
+    let prefix = prefix(decimals, k);
+    number(prefix) * 10u64.pow((k - prefix.len()) as u32)
 }

@@ -1,12 +1,12 @@
 //! One component of the plane, a cycle later.
 ghost use Rattle.std.specs.Prelude.{◌≡◌, ◌≤◌, ◌^◌, ◌↔◌, ◌*ℤ◌, ◌+ℤ◌, ◌-ℤ◌, unsigned_abs, IsTrue, SomeIff};
 ghost use Rattle.dp_fixed.specs.Division.{floor_of};
-ghost use Rattle.dp_fixed.specs.Scale.{one};
+ghost use Rattle.dp_fixed.specs.Scale.{full_scale};
 ghost use Rattle.dp_plant.specs.declared.plane.Component.{Component};
 ghost use Rattle.dp_plant.specs.Observer.{component_next};
 ghost use Rattle.dp_plant.specs.Ranges.{IsComponentWithin, IsObserverGains};
 
-use dp_fixed::{Q, difference, floor_div, scaled, sum};
+use dp_fixed::{Q, difference, floor_div, product, sum};
 use dp_plant::{Component, Gains};
 
 /// No coordinate of a plane's state is farther from zero.
@@ -20,10 +20,10 @@ fn eta_next(gains: &Gains, eta: i64, vel: i64, off: i128) -> i128
     requires eta { unsigned_abs eta ≤ 2 ^ 56 }
     requires vel { unsigned_abs vel ≤ 2 ^ 56 }
     requires off { unsigned_abs off ≤ 2 ^ 57 }
-    ensures { result ≡ floor_of ((one *ℤ (eta +ℤ vel)) +ℤ (gains.now.k2 *ℤ off)) one }
+    ensures { result ≡ floor_of ((full_scale *ℤ (eta +ℤ vel)) +ℤ (gains.now.k2 *ℤ off)) full_scale }
 {
     let moved = sum(eta as i128, vel as i128);
-    let whole = sum(scaled(ONE, moved), scaled(gains.k2, off));
+    let whole = sum(product(ONE, moved), product(gains.k2, off));
     floor_div(whole, Q)
 }
 
@@ -31,10 +31,10 @@ fn beta_next(gains: &Gains, beta: i64, off: i128) -> i128
     requires gains { IsObserverGains gains.now }
     requires beta { unsigned_abs beta ≤ 2 ^ 56 }
     requires off { unsigned_abs off ≤ 2 ^ 57 }
-    ensures { result ≡ floor_of (((one *ℤ beta) -ℤ (gains.now.leak *ℤ beta)) +ℤ (gains.now.k3 *ℤ off)) one }
+    ensures { result ≡ floor_of (((full_scale *ℤ beta) -ℤ (gains.now.leak *ℤ beta)) +ℤ (gains.now.k3 *ℤ off)) full_scale }
 {
-    let kept = difference(scaled(ONE, beta as i128), scaled(gains.leak, beta as i128));
-    let whole = sum(kept, scaled(gains.k3, off));
+    let kept = difference(product(ONE, beta as i128), product(gains.leak, beta as i128));
+    let whole = sum(kept, product(gains.k3, off));
     floor_div(whole, Q)
 }
 
@@ -42,11 +42,11 @@ fn coasted(damp: i64, beta: i64, vel: i64) -> i128
     requires damp { unsigned_abs damp ≤ 2 ^ 30 }
     requires beta { unsigned_abs beta ≤ 2 ^ 56 }
     requires vel { unsigned_abs vel ≤ 2 ^ 56 }
-    ensures value { result ≡ ((one *ℤ vel) -ℤ (damp *ℤ vel)) +ℤ (one *ℤ beta) }
+    ensures value { result ≡ ((full_scale *ℤ vel) -ℤ (damp *ℤ vel)) +ℤ (full_scale *ℤ beta) }
     ensures bound { unsigned_abs result ≤ 2 ^ 90 }
 {
-    let kept = difference(scaled(ONE, vel as i128), scaled(damp, vel as i128));
-    sum(kept, scaled(ONE, beta as i128))
+    let kept = difference(product(ONE, vel as i128), product(damp, vel as i128));
+    sum(kept, product(ONE, beta as i128))
 }
 
 fn vel_next(gains: &Gains, beta: i64, vel: i64, push: i128, off: i128) -> i128
@@ -55,10 +55,10 @@ fn vel_next(gains: &Gains, beta: i64, vel: i64, push: i128, off: i128) -> i128
     requires vel { unsigned_abs vel ≤ 2 ^ 56 }
     requires push { unsigned_abs push ≤ 2 ^ 92 }
     requires off { unsigned_abs off ≤ 2 ^ 57 }
-    ensures { result ≡ floor_of (((((one *ℤ vel) -ℤ (gains.now.damp *ℤ vel)) +ℤ (one *ℤ beta)) +ℤ push) +ℤ (gains.now.k4 *ℤ off)) one }
+    ensures { result ≡ floor_of (((((full_scale *ℤ vel) -ℤ (gains.now.damp *ℤ vel)) +ℤ (full_scale *ℤ beta)) +ℤ push) +ℤ (gains.now.k4 *ℤ off)) full_scale }
 {
     let pushed = sum(coasted(gains.damp, beta, vel), push);
-    let whole = sum(pushed, scaled(gains.k4, off));
+    let whole = sum(pushed, product(gains.k4, off));
     floor_div(whole, Q)
 }
 

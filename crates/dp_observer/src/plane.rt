@@ -7,7 +7,7 @@ ghost use Rattle.dp_observer.specs.Joined.{joined};
 
 use crate::Diverged;
 use crate::component::component;
-use dp_fixed::{difference, scaled, sum};
+use dp_fixed::{difference, product, sum};
 use dp_plant::{Component, Gains, Place, PlaneState};
 
 /// The part to the north of what pushes in body axes.
@@ -19,8 +19,8 @@ fn north_push(pair: (i64, i64), push: [i64; 2]) -> i128
     ensures bound { unsigned_abs result ≤ 2 ^ 92 }
 {
     difference(
-        scaled(pair.0, push[0] as i128),
-        scaled(pair.1, push[1] as i128),
+        product(pair.0, push[0] as i128),
+        product(pair.1, push[1] as i128),
     )
 }
 
@@ -33,8 +33,8 @@ fn east_push(pair: (i64, i64), push: [i64; 2]) -> i128
     ensures bound { unsigned_abs result ≤ 2 ^ 92 }
 {
     sum(
-        scaled(pair.1, push[0] as i128),
-        scaled(pair.0, push[1] as i128),
+        product(pair.1, push[0] as i128),
+        product(pair.0, push[1] as i128),
     )
 }
 

@@ -73,6 +73,8 @@ built_in_gains = record {
   kp = pos 167772 ∷ pos 167772 ∷ [];
   kd = pos 26843546 ∷ pos 26843546 ∷ [];
   bias = pos 20000000 ∷ pos 20000000 ∷ [];
+  wave = pos 0 ∷ pos 0 ∷ pos 0 ∷ pos 0 ∷ [];
+  k1 = pos 0 ∷ pos 0 ∷ [];
 }
 
 abbrev pub built_in_yaw_gains : YawGains

@@ -1,6 +1,6 @@
 -- What the control law demands of surge and sway (Fossen's PID law, the bias estimate in place of the integral).
 use Rattle.std.specs.Prelude.{List, [], ◌∷◌, ℤ, neg_ℤ, ◌-ℤ◌, ◌*ℤ◌}
-use Rattle.dp_fixed.specs.Scale.{one, one_squared}
+use Rattle.dp_fixed.specs.Scale.{full_scale, full_scale_squared}
 use Rattle.dp_fixed.specs.Division.{floor_of}
 use Rattle.dp_fixed.specs.Order.{clamp_of}
 use Rattle.dp_plant.specs.declared.gains.Gains.{Gains}
@@ -13,11 +13,11 @@ use Rattle.dp_plant.specs.Vectors.{entry, offset, along_surge, along_sway}
 -- against the bias within its limit and against the wind; error, velocity and bias are along the axis, times the scale
 unfoldable pub asked_of : ℤ → ℤ → ℤ → ℤ → ℤ → ℤ → ℤ → ℤ
 asked_of kp kd limit error velocity bias wind =
-    ((neg_ℤ (kp *ℤ error) -ℤ (kd *ℤ velocity)) -ℤ (one *ℤ clamp_of bias (neg_ℤ (one *ℤ limit)) (one *ℤ limit))) -ℤ (one *ℤ (one *ℤ wind))
+    ((neg_ℤ (kp *ℤ error) -ℤ (kd *ℤ velocity)) -ℤ (full_scale *ℤ clamp_of bias (neg_ℤ (full_scale *ℤ limit)) (full_scale *ℤ limit))) -ℤ (full_scale *ℤ (full_scale *ℤ wind))
 
 -- the demand: what is asked, within the box of the axis, rounded down
 unfoldable pub issued_of : ℤ → ℤ → ℤ → ℤ
-issued_of asked lo hi = floor_of (clamp_of asked (one *ℤ (one *ℤ lo)) (one *ℤ (one *ℤ hi))) one_squared
+issued_of asked lo hi = floor_of (clamp_of asked (full_scale *ℤ (full_scale *ℤ lo)) (full_scale *ℤ (full_scale *ℤ hi))) full_scale_squared
 
 -- what is asked of surge, and of sway, from a state, by the sine pair and the wind's push
 unfoldable pub asked_surge : Gains → Setpoint → ℤ × ℤ → List ℤ → PlaneState → ℤ

@@ -7,3 +7,4 @@ pub mod Yaw
 pub mod YawRanges
 pub mod FrameRanges
 pub mod BuiltInPlant
+pub mod SoundPlant

@@ -1,6 +1,6 @@
 -- The ranges of the plane's values.
 use Rattle.std.specs.Prelude.{ℕ, ◌≤◌, ◌^◌, List, ℤ, pos, ◌+ℤ◌, ◌*ℤ◌, ◌≤ℤ◌, unsigned_abs}
-use Rattle.dp_fixed.specs.Scale.{one, one_squared}
+use Rattle.dp_fixed.specs.Scale.{full_scale, full_scale_squared}
 use Rattle.dp_plant.specs.declared.place.Place.{Place}
 use Rattle.dp_plant.specs.declared.gains.Gains.{Gains}
 use Rattle.dp_plant.specs.declared.limits.Box3.{Box3}
@@ -15,6 +15,8 @@ pub record IsComponentWithin (x : Component) : Type 0 where
   pub eta : unsigned_abs x.eta ≤ 2 ^ 56
   pub beta : unsigned_abs x.beta ≤ 2 ^ 56
   pub vel : unsigned_abs x.vel ≤ 2 ^ 56
+  pub wave_p : unsigned_abs x.wave_p ≤ 2 ^ 56
+  pub wave_q : unsigned_abs x.wave_q ≤ 2 ^ 56
 
 pub record IsPlaneWithin (x : PlaneState) : Type 0 where
   pub north : IsComponentWithin (north_of x)
@@ -32,7 +34,7 @@ IsMeasuredPlace p = IsVectorWithin (2 ^ 44) p
 -- a share lies from 0 to one
 pub record IsShare (k : ℤ) : Type 0 where
   pub low : pos 0 ≤ℤ k
-  pub high : k ≤ℤ one
+  pub high : k ≤ℤ full_scale
 
 -- the ranges of the gains that the observer reads
 pub record IsObserverGains (g : Gains) : Type 0 where
@@ -41,6 +43,12 @@ pub record IsObserverGains (g : Gains) : Type 0 where
   pub k4 : IsShare g.k4
   pub leak : IsShare g.leak
   pub damp : IsShare g.damp
+  pub wave_pp : unsigned_abs (entry g.wave 0) ≤ 2 ^ 30
+  pub wave_pq : unsigned_abs (entry g.wave 1) ≤ 2 ^ 30
+  pub wave_qp : unsigned_abs (entry g.wave 2) ≤ 2 ^ 30
+  pub wave_qq : unsigned_abs (entry g.wave 3) ≤ 2 ^ 30
+  pub k1_p : unsigned_abs (entry g.k1 0) ≤ 2 ^ 30
+  pub k1_q : unsigned_abs (entry g.k1 1) ≤ 2 ^ 30
 
 -- a limit of the bias lies from 0 to 2^31
 pub record IsBiasLimit (k : ℤ) : Type 0 where
@@ -74,7 +82,7 @@ IsPlaneSetpoint s = IsVectorWithin (2 ^ 43) s.at
 
 -- a sine pair is no longer than one
 pub record IsPair (pair : ℤ × ℤ) : Type 0 where
-  pub short : ((pair.0 *ℤ pair.0) +ℤ (pair.1 *ℤ pair.1)) ≤ℤ one_squared
+  pub short : ((pair.0 *ℤ pair.0) +ℤ (pair.1 *ℤ pair.1)) ≤ℤ full_scale_squared
 
 -- numbers on surge and sway are within a limit of zero
 pub record IsSurgeSwayWithin (limit : ℕ) (u : List ℤ) : Type 0 where

@@ -2,7 +2,7 @@
 -- discrete). Headings are in nanodegrees, and an error of heading is the one that is nearest to zero.
 use Rattle.std.specs.Prelude.{ℕ, ◌*◌, ◌^◌, List, Option, Some, None, ℤ, pos, neg_ℤ, ◌+ℤ◌, ◌-ℤ◌, ◌*ℤ◌}
 use Rattle.std.specs.Int.{int_rem_euclid}
-use Rattle.dp_fixed.specs.Scale.{one}
+use Rattle.dp_fixed.specs.Scale.{full_scale}
 use Rattle.dp_fixed.specs.Division.{floor_of}
 use Rattle.dp_fixed.specs.Order.{clamp_of}
 use Rattle.dp_fixed.specs.Turns.{wrap_of}
@@ -20,11 +20,11 @@ turn = pos 360000000000
 -- limit and against the wind
 unfoldable pub asked_turn_of : ℤ → ℤ → ℤ → ℤ → ℤ → ℤ → ℤ → ℤ
 asked_turn_of kp kd limit error rate bias wind =
-    ((neg_ℤ (kp *ℤ error) -ℤ (kd *ℤ rate)) -ℤ (one *ℤ clamp_of bias (neg_ℤ limit) limit)) -ℤ (one *ℤ wind)
+    ((neg_ℤ (kp *ℤ error) -ℤ (kd *ℤ rate)) -ℤ (full_scale *ℤ clamp_of bias (neg_ℤ limit) limit)) -ℤ (full_scale *ℤ wind)
 
 -- the demand: what is asked, within the box of the axis, rounded down
 unfoldable pub issued_turn_of : ℤ → ℤ → ℤ → ℤ
-issued_turn_of asked lo hi = floor_of (clamp_of asked (one *ℤ lo) (one *ℤ hi)) one
+issued_turn_of asked lo hi = floor_of (clamp_of asked (full_scale *ℤ lo) (full_scale *ℤ hi)) full_scale
 
 abbrev pub asked_yaw : YawGains → Setpoint → List ℤ → YawState → ℤ
 asked_yaw g setpoint wind x = asked_turn_of g.kp g.kd g.bias (wrap_of (x.psi -ℤ setpoint.psi) turn) x.rate x.beta (entry wind 2)
@@ -35,9 +35,9 @@ yaw_demand g box setpoint wind x = issued_turn_of (asked_yaw g setpoint wind x) 
 -- a cycle later, by how far the measured heading is off and what pushes in yaw
 abbrev pub yaw_moved : YawGains → YawState → ℤ → ℤ → YawState
 yaw_moved g x off push = record {
-  psi = int_rem_euclid (floor_of ((one *ℤ (x.psi +ℤ x.rate)) +ℤ (g.k2 *ℤ off)) one) turn;
-  beta = floor_of (((one *ℤ x.beta) -ℤ (g.leak *ℤ x.beta)) +ℤ (g.k3 *ℤ off)) one;
-  rate = floor_of (((((one *ℤ x.rate) -ℤ (g.damp *ℤ x.rate)) +ℤ (one *ℤ x.beta)) +ℤ (one *ℤ push)) +ℤ (g.k4 *ℤ off)) one;
+  psi = int_rem_euclid (floor_of ((full_scale *ℤ (x.psi +ℤ x.rate)) +ℤ (g.k2 *ℤ off)) full_scale) turn;
+  beta = floor_of (((full_scale *ℤ x.beta) -ℤ (g.leak *ℤ x.beta)) +ℤ (g.k3 *ℤ off)) full_scale;
+  rate = floor_of (((((full_scale *ℤ x.rate) -ℤ (g.damp *ℤ x.rate)) +ℤ (full_scale *ℤ x.beta)) +ℤ (full_scale *ℤ push)) +ℤ (g.k4 *ℤ off)) full_scale;
 }
 
 -- by a measured heading in hundredths of a degree; a cycle without one holds the state

@@ -1,6 +1,6 @@
 -- The ranges of yaw's values.
 use Rattle.std.specs.Prelude.{ℕ, ◌≤◌, ◌<◌, ◌^◌, ℤ, pos, ◌≤ℤ◌, ◌<ℤ◌, unsigned_abs}
-use Rattle.dp_fixed.specs.Scale.{one}
+use Rattle.dp_fixed.specs.Scale.{full_scale}
 use Rattle.dp_plant.specs.declared.gains.YawGains.{YawGains}
 use Rattle.dp_plant.specs.declared.limits.Box3.{Box3}
 use Rattle.dp_plant.specs.declared.limits.Setpoint.{Setpoint}
@@ -27,8 +27,8 @@ pub record IsYawGains (g : YawGains) : Type 0 where
   pub kd : IsShare g.kd
   pub k3 : IsGainBetween (pos 0) (pos (2 ^ 17)) g.k3
   pub k4 : IsGainBetween (pos 0) (pos (2 ^ 24)) g.k4
-  pub leak : IsGainBetween (pos (2 ^ 17)) one g.leak
-  pub damp : IsGainBetween (pos (2 ^ 17)) one g.damp
+  pub leak : IsGainBetween (pos (2 ^ 17)) full_scale g.leak
+  pub damp : IsGainBetween (pos (2 ^ 17)) full_scale g.damp
   pub bias : IsGainBetween (pos 0) (pos (2 ^ 38)) g.bias
 
 -- the range of demands holds zero, and is within 2^38 of it

@@ -17,6 +17,7 @@
 #![tactic(auto)]
 
 mod built_in;
+mod cert;
 mod frames;
 mod gains;
 mod limits;
@@ -31,6 +32,7 @@ mod wind;
 mod yaw;
 
 pub use built_in::p0;
+pub use cert::{Cert, Key, Lists, Parts};
 pub use frames::{Frame, Gust, Slot, Wire};
 pub use gains::{Gains, YawGains};
 pub use limits::{Box3, Setpoint};

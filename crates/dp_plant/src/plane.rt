@@ -4,12 +4,16 @@ ghost use Rattle.dp_plant.specs.Observer.{east_of, north_of, plane_of, rest_at};
 
 use crate::Place;
 
-/// The observer's estimate of the plane: place `eta`, bias `beta` (the slow forces) and velocity `vel`, in north and east.
+/// The observer's estimate of the plane, in north and east: place `eta` without the motion that waves cause, bias `beta` (the slow
+/// forces), velocity `vel`, and the wave states, of which `wave_q` is the motion by waves in the measured place and `wave_p` its
+/// companion in the filter.
 #[derive(Clone, Copy, Debug, PartialEq, Eq)]
 pub struct PlaneState {
     pub eta: Place,
     pub beta: Place,
     pub vel: Place,
+    pub wave_p: Place,
+    pub wave_q: Place,
 }
 
 /// The north or the east component of a plane's state.
@@ -18,10 +22,12 @@ pub struct Component {
     pub eta: i64,
     pub beta: i64,
     pub vel: i64,
+    pub wave_p: i64,
+    pub wave_q: i64,
 }
 
 impl PlaneState {
-    /// At rest at a place: no bias and no velocity.
+    /// At rest at a place: no bias, no velocity and no waves.
     pub fn rest(at: Place) -> PlaneState
         ensures { result ≡ rest_at at }
     {
@@ -30,6 +36,8 @@ impl PlaneState {
             eta: at,
             beta: zero,
             vel: zero,
+            wave_p: zero,
+            wave_q: zero,
         }
     }
 
@@ -50,6 +58,14 @@ impl PlaneState {
                 north: north.vel,
                 east: east.vel,
             },
+            wave_p: Place {
+                north: north.wave_p,
+                east: east.wave_p,
+            },
+            wave_q: Place {
+                north: north.wave_q,
+                east: east.wave_q,
+            },
         }
     }
 
@@ -61,6 +77,8 @@ impl PlaneState {
             eta: self.eta.north,
             beta: self.beta.north,
             vel: self.vel.north,
+            wave_p: self.wave_p.north,
+            wave_q: self.wave_q.north,
         }
     }
 
@@ -72,6 +90,8 @@ impl PlaneState {
             eta: self.eta.east,
             beta: self.beta.east,
             vel: self.vel.east,
+            wave_p: self.wave_p.east,
+            wave_q: self.wave_q.east,
         }
     }
 }

@@ -3,17 +3,17 @@ use Rattle.std.proofs.Common.{◌≡◌, ℕ, List, [], ◌∷◌, ◌++◌, rev
 use Rattle.std.proofs.lemmas.List.{append-nil, reverse-append}
 use Rattle.std.proofs.lemmas.List.Elements.{filter_map-append}
 use Rattle.std.proofs.lemmas.Grind.{flat_map-append}
-use Rattle.dp_script.specs.declared.book.Book.{Book}
+use Rattle.dp_script.specs.declared.draft.Draft.{Draft}
 use Rattle.dp_script.specs.declared.event.Event.{Event}
 use Rattle.dp_script.specs.declared.fault.ScriptFault.{ScriptFault}
-use Rattle.dp_script.specs.Books.{Heard}
+use Rattle.dp_script.specs.Drafts.{IsDraftOf}
 use Rattle.dp_script.specs.Events.{events_of, events_by}
 use Rattle.dp_script.specs.Faults.{said_by, entries_of, first_fault}
 
--- a book of all lines but those that are left
-pub record Stands (book : Book) (left all : List (List ℕ)) : Type 0 where
+-- a draft of all lines but those that are left
+pub record Stands (draft : Draft) (left all : List (List ℕ)) : Type 0 where
   pub before : List (List ℕ)
-  pub heard : Heard book before
+  pub heard : IsDraftOf draft before
   pub rest : reverse left ++ before ≡ reverse all
 
 turned : (line : List ℕ) (rest before : List (List ℕ)) → reverse (line ∷ rest) ++ before ≡ reverse rest ++ (line ∷ before)
@@ -25,24 +25,24 @@ unfolding first_fault
 fault_stays [] before fault e = e
 fault_stays (line ∷ later) before fault e = rw (fault_stays later before fault e) refl
 
-pub stands_start : (book : Book) (all : List (List ℕ)) → Heard book [] → Stands book all all
-stands_start book all heard = record { before = []; heard = heard; rest = append-nil (reverse all) }
+pub stands_start : (draft : Draft) (all : List (List ℕ)) → IsDraftOf draft [] → Stands draft all all
+stands_start draft all heard = record { before = []; heard = heard; rest = append-nil (reverse all) }
 
-pub stands_more : (book new : Book) (line : List ℕ) (left rest all : List (List ℕ)) → Stands book left all → left ≡ line ∷ rest
-    → ((before : List (List ℕ)) → Heard book before → Heard new (line ∷ before)) → Stands new rest all
-stands_more book new line left rest all stands e more = record {
+pub stands_more : (draft new : Draft) (line : List ℕ) (left rest all : List (List ℕ)) → Stands draft left all → left ≡ line ∷ rest
+    → ((before : List (List ℕ)) → IsDraftOf draft before → IsDraftOf new (line ∷ before)) → Stands new rest all
+stands_more draft new line left rest all stands e more = record {
   before = line ∷ stands.before;
   heard = more stands.before stands.heard;
   rest = sym (turned line rest stands.before) ∙ (rw e at stands.rest);
 }
 
-pub stands_fault : (book : Book) (line : List ℕ) (left rest all : List (List ℕ)) (fault : ScriptFault) → Stands book left all → left ≡ line ∷ rest
-    → ((before : List (List ℕ)) → Heard book before → first_fault (line ∷ before) ≡ Some fault) → first_fault (reverse all) ≡ Some fault
-stands_fault book line left rest all fault stands e bad =
+pub stands_fault : (draft : Draft) (line : List ℕ) (left rest all : List (List ℕ)) (fault : ScriptFault) → Stands draft left all → left ≡ line ∷ rest
+    → ((before : List (List ℕ)) → IsDraftOf draft before → first_fault (line ∷ before) ≡ Some fault) → first_fault (reverse all) ≡ Some fault
+stands_fault draft line left rest all fault stands e bad =
     rw (← stands.rest, e, turned line rest stands.before) (fault_stays (reverse rest) (line ∷ stands.before) fault (bad stands.before stands.heard))
 
-pub stands_end : (book : Book) (left all : List (List ℕ)) → Stands book left all → left ≡ [] → first_fault (reverse all) ≡ None
-stands_end book left all stands e = rw (← stands.rest, e) stands.heard.clean
+pub stands_end : (draft : Draft) (left all : List (List ℕ)) → Stands draft left all → left ≡ [] → first_fault (reverse all) ≡ None
+stands_end draft left all stands e = rw (← stands.rest, e) stands.heard.clean
 
 events_by-append : (xs ys : List (List ℕ)) → events_by (xs ++ ys) ≡ events_by xs ++ events_by ys
 events_by-append xs ys = rw (filter_map-append said_by xs ys) (flat_map-append events_of (entries_of xs) (entries_of ys))

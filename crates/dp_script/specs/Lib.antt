@@ -4,4 +4,4 @@ pub mod Commands
 pub mod Entries
 pub mod Faults
 pub mod Events
-pub mod Books
+pub mod Drafts

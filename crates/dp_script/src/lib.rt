@@ -34,7 +34,7 @@
 #![tactic(auto)]
 
 mod act;
-mod book;
+mod draft;
 mod command;
 mod entry;
 mod event;

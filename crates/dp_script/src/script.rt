@@ -11,7 +11,7 @@ ghost use Rattle.dp_script.specs.Events.{acts_at, acts_in, events_by, events_of,
 
 use crate::ScriptFault;
 use crate::act::Act;
-use crate::book::Book;
+use crate::draft::Draft;
 use crate::entry::{Acts, Entry};
 use crate::event::Event;
 use crate::usual::{USUAL, usual};
@@ -140,13 +140,13 @@ impl Script {
         ensures events { IfOk result (λ script. script ≡ events_by (lines_of false bytes.now)) }
         ensures acts { IfOk result (λ script. (cycle : ℕ) → acts_at cycle script ≡ acts_in cycle bytes.now) }
     {
-        let mut book = Book::new(alloc);
+        let mut draft = Draft::new(alloc);
         let mut rest = bytes;
         while let Some((line, after)) = next_line(rest, false) {
-            book.hear(line)?;
+            draft.hear(line)?;
             rest = after;
         }
-        Ok(book.into_script())
+        Ok(draft.into_script())
     }
 
     /// How many acts a cycle has: those of the lines that name it, or six where no line does.

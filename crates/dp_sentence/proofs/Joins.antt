@@ -78,8 +78,8 @@ digit-upper c is = grind (arith, nat_tests)
 digit-small : (c : ℕ) → is_ascii_hexdigit c ≡ true → digit_value c < 16
 digit-small c is = grind (arith, nat_tests)
 
-front-of : (p : List ℕ) (x y : ℕ) → take (length (p ++ x ∷ y ∷ []) - 2) (p ++ x ∷ y ∷ []) ≡ p
-front-of p x y = take_at p (x ∷ y ∷ []) (length (p ++ x ∷ y ∷ []) - 2) (omega (arith, length-append p (x ∷ y ∷ [])))
+prefix-of : (p : List ℕ) (x y : ℕ) → take (length (p ++ x ∷ y ∷ []) - 2) (p ++ x ∷ y ∷ []) ≡ p
+prefix-of p x y = take_at p (x ∷ y ∷ []) (length (p ++ x ∷ y ∷ []) - 2) (omega (arith, length-append p (x ∷ y ∷ [])))
 
 last-of : (p : List ℕ) (x y : ℕ) → drop (length (p ++ x ∷ y ∷ []) - 2) (p ++ x ∷ y ∷ []) ≡ x ∷ y ∷ []
 last-of p x y = drop_at p (x ∷ y ∷ []) (length (p ++ x ∷ y ∷ []) - 2) (omega (arith, length-append p (x ∷ y ∷ [])))
@@ -87,7 +87,7 @@ last-of p x y = drop_at p (x ∷ y ∷ []) (length (p ++ x ∷ y ∷ []) - 2) (o
 same-case : (p : List ℕ) (x y h l : ℕ) → to_ascii_uppercase x ≡ to_ascii_uppercase h → to_ascii_uppercase y ≡ to_ascii_uppercase l
     → IsSameButForCase (p ++ x ∷ y ∷ []) (p ++ h ∷ l ∷ [])
 same-case p x y h l high low = record {
-  front = front-of p x y ∙ sym (front-of p h l);
+  prefix = prefix-of p x y ∙ sym (prefix-of p h l);
   digits = rw (last-of p x y, last-of p h l, high, low);
 }
 

@@ -26,5 +26,5 @@ written talker formatter fields = closed (body_of talker formatter fields)
 
 -- the same bytes, but for the case of the last two
 pub record IsSameButForCase (text line : List ℕ) : Type 0 where
-  pub front : take (length text - 2) text ≡ take (length line - 2) line
+  pub prefix : take (length text - 2) text ≡ take (length line - 2) line
   pub digits : str_to_ascii_uppercase (drop (length text - 2) text) ≡ str_to_ascii_uppercase (drop (length line - 2) line)

@@ -3,7 +3,7 @@ use Rattle.std.proofs.Common.{◌≡◌, ℕ, ◌+◌, ◌-◌, List, [], ◌++�
 use Rattle.std.proofs.lemmas.List.{append-nil, take_all, take-append-drop}
 use Rattle.std.proofs.Math.Seq.{take-add, take-append_seam}
 use Rattle.std.specs.Io.KnownBytes.{Appends, Keeps}
-use Rattle.dp_shell.specs.Taken.{AppendsFront, WritesBefore}
+use Rattle.dp_shell.specs.Taken.{AppendsPrefix, WritesBefore}
 
 pub appends_then : (a b c : Option (List ℕ)) (x y : List ℕ) → Appends a b x → Appends b c y → Appends a c (x ++ y)
 appends_then None b c x y h k = tt
@@ -37,9 +37,9 @@ before_next a b c x rest all w k = record { done = w.done ++ x; taken = appends_
 pub before_end : (a b : Option (List ℕ)) (all : List ℕ) → WritesBefore a b [] all → Appends a b all
 before_end a b all w = subst (λ (l : List ℕ). Appends a b l) (sym (append-nil w.done) ∙ w.whole) w.taken
 
--- a front of what comes next was taken
-pub before_front : (a b c : Option (List ℕ)) (x rest all : List ℕ) → WritesBefore a b (x ++ rest) all → AppendsFront b c x → AppendsFront a c all
-before_front a b c x rest all w k =
+-- a prefix of what comes next was taken
+pub before_prefix : (a b c : Option (List ℕ)) (x rest all : List ℕ) → WritesBefore a b (x ++ rest) all → AppendsPrefix b c x → AppendsPrefix a c all
+before_prefix a b c x rest all w k =
     let n = k.0 in
     let tail = drop n x ++ rest in
     let split : all ≡ (w.done ++ take n x) ++ tail = sym w.whole ∙ ap (λ (l : List ℕ). w.done ++ (l ++ rest)) (sym (take-append-drop n x)) ∙ simp append_assoc in

@@ -26,7 +26,7 @@ abbrev pub ReadsPart : {E : Type 0} → Option Files → List ℕ → ℕ → Re
 ReadsPart None name from result into = ⊤
 ReadsPart (Some files) name from result into = IfOk result (λ n. IsSomeAnd (text_named files name) (λ text. IsPart text from n into))
 
--- where the files are told, the name is there, `front` is its text up to the limit, and `is_cut` says whether there is more
+-- where the files are told, the name is there, `prefix` is its text up to the limit, and `is_cut` says whether there is more
 abbrev pub ReadsWhole : Option Files → List ℕ → ℕ → List ℕ → Bool → Type 0
-ReadsWhole None name limit front is_cut = ⊤
-ReadsWhole (Some files) name limit front is_cut = IsSomeAnd (text_named files name) (λ text. (front ≡ take limit text) × (is_cut ≡ nat_lt limit (length text)))
+ReadsWhole None name limit prefix is_cut = ⊤
+ReadsWhole (Some files) name limit prefix is_cut = IsSomeAnd (text_named files name) (λ text. (prefix ≡ take limit text) × (is_cut ≡ nat_lt limit (length text)))

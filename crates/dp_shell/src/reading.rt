@@ -19,7 +19,7 @@ pub enum ReadTrouble {
 
 /// A text up to a limit of bytes.
 #[derive(Drop)]
-pub struct Whole {
+pub struct FilePart {
     pub text: Vec<u8>,
     /// The text goes on past the limit.
     pub is_cut: bool,
@@ -31,7 +31,7 @@ pub fn read_whole<F: Shelf>(
     shelf: &mut F,
     name: &str,
     limit: usize,
-) -> Result<Whole, ReadTrouble>
+) -> Result<FilePart, ReadTrouble>
     ensures whole { IfOk result (λ whole. ReadsWhole (F.files shelf.old) name.now limit whole.text.items whole.is_cut) }
     ensures size { IfOk result (λ whole. length whole.text.items ≤ limit) }
 
@@ -51,7 +51,7 @@ pub fn read_whole<F: Shelf>(
     let mut text = Vec::new(alloc);
     let is_cut = fill(shelf, name, limit, &mut piece, &mut text)?;
     text.truncate(limit);
-    Ok(Whole { text, is_cut })
+    Ok(FilePart { text, is_cut })
 }
 
 /// So many zero bytes.

@@ -6,8 +6,8 @@ ghost use Rattle.dp_text.specs.Lines.{is_newline, lines_of, stripped};
 fn strip(line: &[u8]) -> &[u8]
     ensures { result.now ≡ stripped line.now }
 {
-    if let [front @ .., b'\r'] = line {
-        front
+    if let [prefix @ .., b'\r'] = line {
+        prefix
     } else {
         line
     }

@@ -3,8 +3,8 @@ use Rattle.std.proofs.Common.{◌≡◌, ℕ, zero, suc, [], ◌∷◌, arith, �
 use Rattle.std.proofs.lemmas.Int.{ints}
 use Rattle.std.specs.Int.RustNames.{int_div}
 use lib.IntN.{*ℤ_comm}
-use Rattle.dp_algebra.proofs.Ring.{var, ◌⊕◌, ◌⊗◌, minus, ring}
-use Rattle.dp_algebra.proofs.Order.{square_nonneg, mul_le, le_cancel, mul_pos, square_le_cancel}
+use Rattle.dp_form.proofs.Ring.{var, ◌⊕◌, ◌⊗◌, minus, ring}
+use Rattle.dp_form.proofs.Order.{square_nonneg, mul_le, le_cancel, mul_pos, square_le_cancel}
 use Rattle.dp_trig.specs.Rotation.{Pair, scale, turned, repeated, IsShort, PartsWithin}
 
 -- of two numbers from 0 up, the smaller one's square is the smaller
@@ -38,7 +38,7 @@ rotation_short q a b c d t u q0 h k x y =
     let lengths = ring (a ∷ (b ∷ (c ∷ (d ∷ []))))
     ((var 0 ⊗ var 2 ⊕ minus (var 1 ⊗ var 3)) ⊗ (var 0 ⊗ var 2 ⊕ minus (var 1 ⊗ var 3)) ⊕ (var 1 ⊗ var 2 ⊕ var 0 ⊗ var 3) ⊗ (var 1 ⊗ var 2 ⊕ var 0 ⊗ var 3))
     ((var 0 ⊗ var 0 ⊕ var 1 ⊗ var 1) ⊗ (var 2 ⊗ var 2 ⊕ var 3 ⊗ var 3)) tt in
-    let scaled = ring (q ∷ (t ∷ (u ∷ []))) ((var 1 ⊗ var 0) ⊗ (var 1 ⊗ var 0) ⊕ (var 2 ⊗ var 0) ⊗ (var 2 ⊗ var 0)) ((var 0 ⊗ var 0) ⊗ (var 1 ⊗ var 1 ⊕ var 2 ⊗ var 2)) tt in
+    let product = ring (q ∷ (t ∷ (u ∷ []))) ((var 1 ⊗ var 0) ⊗ (var 1 ⊗ var 0) ⊕ (var 2 ⊗ var 0) ⊗ (var 2 ⊗ var 0)) ((var 0 ⊗ var 0) ⊗ (var 1 ⊗ var 1 ⊕ var 2 ⊗ var 2)) tt in
     let first = mul_le (a *ℤ a +ℤ b *ℤ b) (c *ℤ c +ℤ d *ℤ d) (q *ℤ q) n k in
     let second = mul_le (q *ℤ q) (a *ℤ a +ℤ b *ℤ b) (q *ℤ q) low_q h in
     let turned_about = *ℤ_comm (a *ℤ a +ℤ b *ℤ b) (q *ℤ q) in

@@ -2,7 +2,7 @@
 use Rattle.std.proofs.Common.{◌≡◌, ℕ, zero, suc, ◌-◌, ◌/◌, ◌%◌, Bool, true, false, [], ◌∷◌, arith, refl, ap, sym, ◌∙◌, ℤ, pos, neg_ℤ, ◌-ℤ◌, ◌*ℤ◌}
 use Rattle.std.proofs.lemmas.Int.{ints}
 use Rattle.std.specs.Prelude.{nat_le, if◌then◌else◌}
-use Rattle.dp_algebra.proofs.Ring.{var, ◌⊗◌, minus, ring}
+use Rattle.dp_form.proofs.Ring.{var, ◌⊗◌, minus, ring}
 use Rattle.dp_trig.specs.Rotation.{Pair, IsShort, PartsWithin}
 use Rattle.dp_trig.specs.SinePair.{degree, hundredth, degrees, hundredths, octant_pair, exchanged, quadrant_pair, after_quarters, pair_of}
 use Rattle.dp_trig.proofs.Lengths.{turned-short, repeated-short, parts_within}

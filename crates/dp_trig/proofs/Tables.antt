@@ -1,4 +1,4 @@
--- A table that is filled from the front.
+-- A table that is filled from the prefix.
 use Rattle.std.proofs.Common.{◌≡◌, ℕ, zero, suc, ◌+◌, ◌<◌, List, [], ◌∷◌, length, Some, slice_get, slice_set, refl, arith, ap, ◌∙◌}
 use borrow.Author.Count.{below_more}
 

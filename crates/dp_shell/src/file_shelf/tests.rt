@@ -7,7 +7,7 @@ fn real_files_are_read_back(rt: HostRuntime) {
     let words = ["replay", "record", "nowhere"];
     let mut shelf = FileShelf::new(&rt, &words);
     let mut into = [0u8; 3];
-    for (name, from, count, front) in [
+    for (name, from, count, prefix) in [
         ("record", 0, Ok(3), b"abc"),
         ("record", 3, Ok(2), b"dec"),
         ("record", 5, Ok(0), b"dec"),
@@ -19,7 +19,7 @@ fn real_files_are_read_back(rt: HostRuntime) {
             count,
             "{name} from {from}"
         );
-        assert_eq!(rt; &into, front, "{name} from {from}");
+        assert_eq!(rt; &into, prefix, "{name} from {from}");
     }
     // a failure each of the third word and of the names that are no word
     assert_eq!(rt; shelf.counts, [0, 0, 1, 1, 0, 0, 0, 0, 0]);

@@ -15,7 +15,7 @@ pub returns-in_default : goal.returns-in_default
 returns-in_default g c =
     let x = settings_of c.args.plant.now in
     let fs = c.requires.playing.0 in
-    let counted : HasPlayed c.args.plant.now c.args.script.now c.hear.new.self (fs ++ given c.feed.result) → c.feed.new.self.book.kept.cycle ≡ c.hear.new.self.count =
+    let counted : HasPlayed c.args.plant.now c.args.script.now c.hear.new.self (fs ++ given c.feed.result) → c.feed.new.self.progress.kept.cycle ≡ c.hear.new.self.count =
     λ h. omega (arith, c.feed.ensures.next, c.requires.next, c.requires.playing.1.count, h.count, length-append fs (given c.feed.result)) in
     record {
       fault = λ text r. rw (rw c.requires.settings at (c.feed.ensures.answer text r)) at c.hear.ensures.fault;

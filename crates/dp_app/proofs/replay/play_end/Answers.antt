@@ -2,7 +2,7 @@ use Rattle.std.proofs.Common.{◌≡◌, ◌++◌, [], ℕ, List, refl, ap, subs
 use Rattle.std.specs.Io.KnownBytes.{Appends}
 use Rattle.std.proofs.lemmas.List.{append-nil}
 use Rattle.dp_plant.specs.declared.frames.Frame.{Frame}
-use Rattle.dp_shell.specs.Taken.{AppendsFront}
+use Rattle.dp_shell.specs.Taken.{AppendsPrefix}
 use Rattle.dp_frame.specs.Cycles.{frames_given, frames_so_far, record_frames}
 use Rattle.dp_frame.specs.Feeds.{ending, given}
 use Rattle.dp_frame.specs.Record.{all_lines, ended_lines}
@@ -10,8 +10,8 @@ use Rattle.dp_frame.specs.Represents.{settings_of}
 use Rattle.dp_frame.proofs.Endings.{given-none}
 use Rattle.dp_frame.proofs.FinishSteps.{whole-open}
 use Rattle.dp_app.specs.Playing.{HasPlayed, text_left, text_then}
-use Rattle.dp_app.proofs.Finishing.{closed_sound, end_fault, front_after, given_all, given_next, given_open, left_is, not_done}
-use Rattle.dp_app.proofs.Playing.{takes_front, takes_more, takes_none}
+use Rattle.dp_app.proofs.Finishing.{closed_sound, end_fault, prefix_after, given_all, given_next, given_open, left_is, not_done}
+use Rattle.dp_app.proofs.Playing.{takes_prefix, takes_more, takes_none}
 use Rattle.dp_app.proofs.replay.play_end.Goals as goal
 
 pub loop-fault-init : goal.loop-fault-init
@@ -41,17 +41,17 @@ returns-in_err-fault-clause-err g c = λ text r h.
     let before = inv.played text r h in
     let feed = c.finish-feed.result in
     let answered : feed ≡ ending x text c.loop-fault.lines.phase = rw inv.settings at (c.finish-feed.ensures.answer text (inv.represents text r)) in
-    let rest = front_after x text c.requires.cycle c.loop-fault.lines.phase feed answered in
+    let rest = prefix_after x text c.requires.cycle c.loop-fault.lines.phase feed answered in
     let all = (before.0 ++ given feed) ++ rest.0 in
     let whole : so_far ++ all ≡ record_frames x (all_lines text) =
     sym (append_assoc so_far (before.0 ++ given feed) rest.0) ∙ ap (λ (l : List Frame). l ++ rest.0) (sym (append_assoc so_far before.0 (given feed)))
     ∙ ap (λ (l : List Frame). (l ++ given feed) ++ rest.0) before.1 ∙ rest.1 in
-    let last : AppendsFront (g.K.Sink.taken c.loop-fault.out) (g.K.Sink.taken c.hear.new.out) (text_then p s (so_far ++ before.0) (given feed)) =
-    subst (λ (l : List Frame). AppendsFront (g.K.Sink.taken c.loop-fault.out) (g.K.Sink.taken c.hear.new.out) (text_then p s l (given feed))) (sym before.1)
+    let last : AppendsPrefix (g.K.Sink.taken c.loop-fault.out) (g.K.Sink.taken c.hear.new.out) (text_then p s (so_far ++ before.0) (given feed)) =
+    subst (λ (l : List Frame). AppendsPrefix (g.K.Sink.taken c.loop-fault.out) (g.K.Sink.taken c.hear.new.out) (text_then p s l (given feed))) (sym before.1)
     (c.in_err-fault.ensures.err (frames_given x text c.loop-fault.lines.phase) before.2) in
-    let front = takes_front p s (g.K.Sink.taken c.args.out.now) (g.K.Sink.taken c.loop-fault.out) (g.K.Sink.taken c.hear.new.out) so_far before.0 (given feed) rest.0 all refl before.3 last in
-    let stopped : AppendsFront (g.K.Sink.taken c.args.out.now) (g.K.Sink.taken c.hear.new.out) (text_left p s text) =
-    subst (λ (l : List ℕ). AppendsFront (g.K.Sink.taken c.args.out.now) (g.K.Sink.taken c.hear.new.out) l) (left_is p s text all whole) front in
+    let prefix = takes_prefix p s (g.K.Sink.taken c.args.out.now) (g.K.Sink.taken c.loop-fault.out) (g.K.Sink.taken c.hear.new.out) so_far before.0 (given feed) rest.0 all refl before.3 last in
+    let stopped : AppendsPrefix (g.K.Sink.taken c.args.out.now) (g.K.Sink.taken c.hear.new.out) (text_left p s text) =
+    subst (λ (l : List ℕ). AppendsPrefix (g.K.Sink.taken c.args.out.now) (g.K.Sink.taken c.hear.new.out) l) (left_is p s text all whole) prefix in
     search (rules, stopped)
 
 pub returns-then-not-is_closed-clause-fault : goal.returns-then-not-is_closed-clause-fault

@@ -17,9 +17,9 @@ invariant-loop-fault g l =
     let x = settings_of l.plant in
     record {
       represents : (text : List ℕ) → Represents l.fn.lines text → RepresentsWhole l.lines text;
-      settings : l.lines.book.settings ≡ settings_of l.plant;
+      settings : l.lines.progress.settings ≡ settings_of l.plant;
       playing : IsPlaying l.plant l.script l.player;
-      cycle : (l.lines.phase ≡ Done → ⊥) → l.lines.book.kept.cycle ≡ l.player.count;
+      cycle : (l.lines.phase ≡ Done → ⊥) → l.lines.progress.kept.cycle ≡ l.player.count;
       played : (text : List ℕ) → Represents l.fn.lines text → HasPlayed l.plant l.script l.fn.player (frames_so_far x (ended_lines text))
           → (later : List Frame) × (frames_so_far x (ended_lines text) ++ later ≡ frames_given x text l.lines.phase)
           × HasPlayed l.plant l.script l.player (frames_given x text l.lines.phase)

@@ -9,7 +9,7 @@ use Rattle.dp_frame.specs.Represents.{settings_of}
 use Rattle.dp_frame.proofs.CycleSteps.{nothing_over}
 use Rattle.dp_app.specs.Outcome.{record_fault}
 use Rattle.dp_app.specs.Playing.{HasPlayed, text_first}
-use Rattle.dp_app.proofs.Playing.{first_front, first_next, first_none}
+use Rattle.dp_app.proofs.Playing.{first_prefix, first_next, first_none}
 use Rattle.dp_app.proofs.Reading.{fault_lasts, heard_fault, no_lines, no_refusal, so_far_grows, so_far_next}
 use Rattle.dp_app.proofs.replay.play_text.Goals as goal
 
@@ -49,7 +49,7 @@ returns-in_err-fault-clause-err g c =
     let whole : (t ++ b ∷ []) ++ drop (i + 1) xs ≡ xs = ap (λ (l : List ℕ). l ++ drop (i + 1) xs) (sym longer) ∙ take-append-drop (i + 1) xs in
     let all : (frames_so_far x (ended_lines t) ++ given a) ++ rest.0 ≡ frames_so_far x (ended_lines xs) =
     ap (λ (l : List Frame). l ++ rest.0) grown ∙ rest.1 ∙ ap (λ (l : List ℕ). frames_so_far x (ended_lines l)) whole in
-    let stopped = first_front p s (g.K.Sink.taken c.args.out.now) (g.K.Sink.taken c.loop-byte.out) (g.K.Sink.taken c.play_byte.new.out)
+    let stopped = first_prefix p s (g.K.Sink.taken c.args.out.now) (g.K.Sink.taken c.loop-byte.out) (g.K.Sink.taken c.play_byte.new.out)
     (frames_so_far x (ended_lines t)) (given a) rest.0 (frames_so_far x (ended_lines xs)) all inv.text
     (c.in_err-fault.ensures.err t inv.represents (frames_so_far x (ended_lines t)) inv.played) in
     search (rules, stopped)

@@ -15,9 +15,9 @@ invariant-loop-byte g l =
     record {
       represents : Represents l.lines (take l.byte-index l.text);
       open_still : IsOpen l.lines;
-      settings : l.lines.book.settings ≡ settings_of l.plant;
+      settings : l.lines.progress.settings ≡ settings_of l.plant;
       sound : first_refusal (settings_of l.plant) (ended_lines (take l.byte-index l.text)) ≡ None;
-      cycle : l.lines.book.kept.cycle ≡ l.player.count;
+      cycle : l.lines.progress.kept.cycle ≡ l.player.count;
       played : HasPlayed l.plant l.script l.player so_far;
       text : Appends (taken l.fn.out) (taken l.out) (text_first l.plant l.script so_far);
       no_less : faults l.fn.out ≤ faults l.out;

@@ -1,5 +1,5 @@
 use Rattle.std.proofs.Common.{◌≡◌, ◌≤◌, ◌++◌, ◌∙◌, take, length, arith, rules, ap}
-use Rattle.dp_shell.proofs.Fronts.{front_step}
+use Rattle.dp_shell.proofs.Prefixes.{prefix_step}
 use Rattle.dp_shell.proofs.reading.fill.Goals as goal
 
 pub loop-shelf-preserved : goal.loop-shelf-preserved
@@ -17,7 +17,7 @@ loop-shelf-preserved g c =
       room = search rules;
       told = c.in-Ok.ensures.files ∙ told;
       names = c.in-Ok.ensures.apart ∙ names;
-      front = front_step _ _ _ _ part piece next count _ fits c.loop-shelf.invariant.front told (search rules) c.in-Ok.ensures.part is;
+      prefix = prefix_step _ _ _ _ part piece next count _ fits c.loop-shelf.invariant.prefix told (search rules) c.in-Ok.ensures.part is;
       rising = λ other. omega (arith, c.in-Ok.ensures.none_falls other, c.loop-shelf.invariant.rising other);
       rest = λ other among ne. c.in-Ok.ensures.others other (ap (λ (test : _). test other) names ∙ among) ne ∙ c.loop-shelf.invariant.rest other among ne;
     }

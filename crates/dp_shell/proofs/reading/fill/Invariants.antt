@@ -1,9 +1,9 @@
 use Rattle.std.proofs.Common.{◌≡◌, ◌+◌, ◌-◌, ◌<◌, length}
-use Rattle.dp_shell.proofs.Fronts.{ReadsFront}
+use Rattle.dp_shell.proofs.Prefixes.{ReadsPrefix}
 use Rattle.dp_shell.specs.Faults.{NoneFalls, OthersStay}
 use Rattle.dp_shell.proofs.reading.fill.Given as goal
 
--- a front of the text was read
+-- a prefix of the text was read
 abbrev pub invariant-loop-shelf : goal.invariant-loop-shelf
 invariant-loop-shelf g l =
     let files = g.F.Shelf.files in
@@ -13,7 +13,7 @@ invariant-loop-shelf g l =
       room : 0 < length l.piece;
       told : files l.shelf ≡ files l.fn.shelf;
       names : apart l.shelf ≡ apart l.fn.shelf;
-      front : ReadsFront (files l.fn.shelf) l.name l.text.items;
+      prefix : ReadsPrefix (files l.fn.shelf) l.name l.text.items;
       rising : NoneFalls (faults l.fn.shelf) (faults l.shelf);
       rest : OthersStay (apart l.fn.shelf) l.name (faults l.fn.shelf) (faults l.shelf);
     }

@@ -9,7 +9,7 @@ invariant-loop-done g l =
     let faults = g.K.Sink.faults in
     record {
       size : l.done ≤ length l.text;
-      front : Appends (taken l.fn.out) (taken l.out) (take l.done l.text);
+      prefix : Appends (taken l.fn.out) (taken l.out) (take l.done l.text);
       later : faults l.fn.out ≤ faults l.out;
     }
 

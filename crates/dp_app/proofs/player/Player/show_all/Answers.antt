@@ -4,7 +4,7 @@ use Rattle.dp_plant.specs.declared.frames.Frame.{Frame}
 use Rattle.dp_frame.specs.declared.feed.Feed.TheVariants.{Closed}
 use Rattle.dp_frame.specs.Feeds.{given}
 use Rattle.dp_app.specs.Playing.{HasPlayed, text_then}
-use Rattle.dp_app.proofs.Playing.{given_next, given_split, given_whole, takes_first, takes_front, takes_more}
+use Rattle.dp_app.proofs.Playing.{given_next, given_split, given_whole, takes_first, takes_prefix, takes_more}
 use Rattle.dp_app.proofs.player.Player.show_all.Goals as goal
 
 pub returns-in_err-show-clause-err : goal.returns-in_err-show-clause-err
@@ -27,7 +27,7 @@ returns-in_err-show-2-clause-err g c = λ fs h.
     let all = given_split f k c.args.empty c.loop-k-test.true in
     let whole : (given (Closed f k) ++ e ∷ []) ++ all.0 ≡ given (Closed f c.args.empty) =
     ap (λ (x : Frame). (given (Closed f k) ++ x ∷ []) ++ all.0) c.empty_frame.ensures.value ∙ all.1 in
-    let stopped = takes_front c.args.plant.now c.args.script.now old mid new fs (given (Closed f k)) (e ∷ []) all.0 (given (Closed f c.args.empty)) whole
+    let stopped = takes_prefix c.args.plant.now c.args.script.now old mid new fs (given (Closed f k)) (e ∷ []) all.0 (given (Closed f c.args.empty)) whole
     (c.loop-k.invariant.text fs h) (c.in_err-show-2.ensures.err (fs ++ given (Closed f k)) (c.loop-k.invariant.played fs h)) in
     search (rules, stopped)
 

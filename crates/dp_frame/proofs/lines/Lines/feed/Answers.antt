@@ -13,7 +13,7 @@ returns-in-Some-clause-answer c = λ t s.
 
 pub returns-clause-represents : goal.returns-clause-represents
 returns-clause-represents c = λ t s.
-    represents-other _ t c.args.byte c.keep.new.front.items (not_newline c.args.byte c.if-byte-eq-LINE_FEED.false) c.in_default.is (rw (← c.self.view_is) at s) (c.keep.ensures.kept c.self.invariant.short)
+    represents-other _ t c.args.byte c.keep.new.prefix.items (not_newline c.args.byte c.if-byte-eq-LINE_FEED.false) c.in_default.is (rw (← c.self.view_is) at s) (c.keep.ensures.kept c.self.invariant.short)
 
 pub returns-clause-answer : goal.returns-clause-answer
 returns-clause-answer c = λ t s.

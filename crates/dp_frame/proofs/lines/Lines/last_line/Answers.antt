@@ -7,34 +7,34 @@ pub returns-then-self-eq0-clause-represents : goal.returns-then-self-eq0-clause-
 returns-then-self-eq0-clause-represents c = λ t s.
     let was = rw (← c.self.view_is) at s in
     let going = rw (← c.self.view_is) at c.requires.going in
-    let k = was.front going in
-    whole-done _ _ _ _ t (rw (all-done t (sym k.front_len ∙ c.if-self-eq0.true)) was.lines)
+    let k = was.prefix going in
+    whole-done _ _ _ _ t (rw (all-done t (sym k.prefix_len ∙ c.if-self-eq0.true)) was.lines)
 
 pub returns-then-self-eq0-clause-answer : goal.returns-then-self-eq0-clause-answer
 returns-then-self-eq0-clause-answer c = λ t s.
     let was = rw (← c.self.view_is) at s in
     let going = rw (← c.self.view_is) at c.requires.going in
-    let k = was.front going in
-    let all = all-done t (sym k.front_len ∙ c.if-self-eq0.true) in
-    let still = answer-none c.self.inside.book.settings (ended_lines t) (sym was.lines.refusal ∙ going) in
-    let more = ending-more c.self.inside.book.settings t (rw all still) in
+    let k = was.prefix going in
+    let all = all-done t (sym k.prefix_len ∙ c.if-self-eq0.true) in
+    let still = answer-none c.self.inside.progress.settings (ended_lines t) (sym was.lines.refusal ∙ going) in
+    let more = ending-more c.self.inside.progress.settings t (rw all still) in
     c.last_frame.ensures.answer (ended_lines t) was.lines going ∙ rw (← c.self.view_is, more.0, all)
 
 pub returns-then-self-eq0-clause-phase : goal.returns-then-self-eq0-clause-phase
 returns-then-self-eq0-clause-phase c = λ t s ok.
     let was = rw (← c.self.view_is) at s in
     let going = rw (← c.self.view_is) at c.requires.going in
-    let k = was.front going in
-    let all = all-done t (sym k.front_len ∙ c.if-self-eq0.true) in
-    let still = answer-none c.self.inside.book.settings (ended_lines t) (sym was.lines.refusal ∙ going) in
-    rw (← c.self.view_is) (sym (ending-more c.self.inside.book.settings t (rw all still)).1)
+    let k = was.prefix going in
+    let all = all-done t (sym k.prefix_len ∙ c.if-self-eq0.true) in
+    let still = answer-none c.self.inside.progress.settings (ended_lines t) (sym was.lines.refusal ∙ going) in
+    rw (← c.self.view_is) (sym (ending-more c.self.inside.progress.settings t (rw all still)).1)
 
 pub returns-in-More-clause-represents : goal.returns-in-More-clause-represents
 returns-in-More-clause-represents c = λ t s.
     let was = rw (← c.self.view_is) at s in
     let j = judges _ c.line-answer.new.self c.line-answer.result c.as_slice.result.now t was (rw (← c.self.view_is) at c.requires.going) c.if-self-eq0.false c.as_slice.ensures.value c.line-answer.ensures.settings
     (c.line-answer.ensures.represents (ended_lines t) was.lines) (c.line-answer.ensures.answer (ended_lines t) was.lines) in
-    whole-done _ _ _ _ t j.book
+    whole-done _ _ _ _ t j.progress
 
 pub returns-in-More-clause-answer : goal.returns-in-More-clause-answer
 returns-in-More-clause-answer c = λ t s.
@@ -42,15 +42,15 @@ returns-in-More-clause-answer c = λ t s.
     let j = judges _ c.line-answer.new.self c.line-answer.result c.as_slice.result.now t was (rw (← c.self.view_is) at c.requires.going) c.if-self-eq0.false c.as_slice.ensures.value c.line-answer.ensures.settings
     (c.line-answer.ensures.represents (ended_lines t) was.lines) (c.line-answer.ensures.answer (ended_lines t) was.lines) in
     let more = sym j.answer_is ∙ c.in-More.is in
-    let ok = j.book.refusal ∙ rw c.line-answer.ensures.settings (answer-more c.self.inside.book.settings (ended_lines t) (all_lines t) more) in
-    c.last_frame-in-More.ensures.answer (all_lines t) j.book ok ∙ rw (← c.self.view_is, c.line-answer.ensures.settings) (sym (ending-more c.self.inside.book.settings t more).0)
+    let ok = j.progress.refusal ∙ rw c.line-answer.ensures.settings (answer-more c.self.inside.progress.settings (ended_lines t) (all_lines t) more) in
+    c.last_frame-in-More.ensures.answer (all_lines t) j.progress ok ∙ rw (← c.self.view_is, c.line-answer.ensures.settings) (sym (ending-more c.self.inside.progress.settings t more).0)
 
 pub returns-in-More-clause-phase : goal.returns-in-More-clause-phase
 returns-in-More-clause-phase c = λ t s ok.
     let was = rw (← c.self.view_is) at s in
     let j = judges _ c.line-answer.new.self c.line-answer.result c.as_slice.result.now t was (rw (← c.self.view_is) at c.requires.going) c.if-self-eq0.false c.as_slice.ensures.value c.line-answer.ensures.settings
     (c.line-answer.ensures.represents (ended_lines t) was.lines) (c.line-answer.ensures.answer (ended_lines t) was.lines) in
-    rw (← c.self.view_is) (sym (ending-more c.self.inside.book.settings t (sym j.answer_is ∙ c.in-More.is)).1)
+    rw (← c.self.view_is) (sym (ending-more c.self.inside.progress.settings t (sym j.answer_is ∙ c.in-More.is)).1)
 
 pub returns : goal.returns
 returns c = record {
@@ -58,17 +58,17 @@ returns c = record {
       let was = rw (← c.self.view_is) at s in
       let j = judges _ c.line-answer.new.self c.line-answer.result c.as_slice.result.now t was (rw (← c.self.view_is) at c.requires.going) c.if-self-eq0.false c.as_slice.ensures.value c.line-answer.ensures.settings
       (c.line-answer.ensures.represents (ended_lines t) was.lines) (c.line-answer.ensures.answer (ended_lines t) was.lines) in
-      whole-last _ _ _ _ t j.book;
+      whole-last _ _ _ _ t j.progress;
   answer = λ t s.
       let was = rw (← c.self.view_is) at s in
       let j = judges _ c.line-answer.new.self c.line-answer.result c.as_slice.result.now t was (rw (← c.self.view_is) at c.requires.going) c.if-self-eq0.false c.as_slice.ensures.value c.line-answer.ensures.settings
       (c.line-answer.ensures.represents (ended_lines t) was.lines) (c.line-answer.ensures.answer (ended_lines t) was.lines) in
-      rw (← c.self.view_is) (sym (ending-other c.self.inside.book.settings t c.line-answer.result (sym j.answer_is) (not_more c.line-answer.result c.in_default.not-More)).0);
+      rw (← c.self.view_is) (sym (ending-other c.self.inside.progress.settings t c.line-answer.result (sym j.answer_is) (not_more c.line-answer.result c.in_default.not-More)).0);
   phase = λ t s ok.
       let was = rw (← c.self.view_is) at s in
       let j = judges _ c.line-answer.new.self c.line-answer.result c.as_slice.result.now t was (rw (← c.self.view_is) at c.requires.going) c.if-self-eq0.false c.as_slice.ensures.value c.line-answer.ensures.settings
       (c.line-answer.ensures.represents (ended_lines t) was.lines) (c.line-answer.ensures.answer (ended_lines t) was.lines) in
-      rw (← c.self.view_is) (sym (ending-other c.self.inside.book.settings t c.line-answer.result (sym j.answer_is) (not_more c.line-answer.result c.in_default.not-More)).1);
+      rw (← c.self.view_is) (sym (ending-other c.self.inside.progress.settings t c.line-answer.result (sym j.answer_is) (not_more c.line-answer.result c.in_default.not-More)).1);
   fewer = omega arith;
   range = rw (← c.self.view_is) c.line-answer.ensures.range;
   closes = rw (← c.self.view_is) c.line-answer.ensures.closes;

@@ -1,6 +1,6 @@
 use Rattle.std.proofs.Common.{refl, arith}
 use Rattle.dp_frame.proofs.TextSteps.{ended-none, unfinished-none}
-use Rattle.dp_frame.proofs.BookSteps.{represents-first}
+use Rattle.dp_frame.proofs.ProgressSteps.{represents-first}
 use Rattle.dp_frame.proofs.Entering.{bounded-empty}
 use Rattle.dp_frame.proofs.lines.Lines.new.Goals as goal
 
@@ -8,12 +8,12 @@ pub returns-clause-represents : goal.returns-clause-represents
 returns-clause-represents c = record {
   bytes = refl;
   lines = rw ended-none (represents-first _ c.empty_frame.result c.empty_frame.ensures.value);
-  front = λ _. record { front = rw (unfinished-none, c.new.ensures); front_len = rw unfinished-none };
+  prefix = λ _. record { prefix = rw (unfinished-none, c.new.ensures); prefix_len = rw unfinished-none };
 }
 
 pub invariant_of-result : goal.invariant_of-result
 invariant_of-result c = record {
-  book = record {
+  progress = record {
     readable = record { step = c.requires.cycle; groups = c.requires.groups };
     bounded = rw c.empty_frame.ensures.value (bounded-empty 0 0);
     range = c.empty_frame.ensures.range (omega arith) c.args.plant.now.groups;

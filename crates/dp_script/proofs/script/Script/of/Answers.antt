@@ -10,9 +10,9 @@ use Rattle.dp_script.proofs.script.Script.of.Goals as goal
 pub returns-in_err-hear-clause-fault : goal.returns-in_err-hear-clause-fault
 returns-in_err-hear-clause-fault c =
     let p = err_from_is_err_and c.from_residual.result c.from_residual.ensures.1 in
-    rw (p.1, p.2) (λ other. stands_fault c.loop-line.book c.in-Some.line.now _ _ _ _ c.loop-line.invariant.stands c.in-Some.ensures.next (c.in_err-hear.ensures.fault other))
+    rw (p.1, p.2) (λ other. stands_fault c.loop-line.draft c.in-Some.line.now _ _ _ _ c.loop-line.invariant.stands c.in-Some.ensures.next (c.in_err-hear.ensures.fault other))
 
 pub returns-clause-acts : goal.returns-clause-acts
 returns-clause-acts c = λ cycle.
-    ap (acts_at cycle) (c.into_script.ensures ∙ events_end c.loop-line.book.script _ (lines_of false c.loop-line.rest.now) c.loop-line.invariant.events c.in_default.ensures.next)
+    ap (acts_at cycle) (c.into_script.ensures ∙ events_end c.loop-line.draft.script _ (lines_of false c.loop-line.rest.now) c.loop-line.invariant.events c.in_default.ensures.next)
     ∙ same_cycle cycle (entries_of (lines_of false c.args.bytes.now))

@@ -1,3 +1,0 @@
-pub mod RingLaws
-pub mod Ring
-pub mod Order

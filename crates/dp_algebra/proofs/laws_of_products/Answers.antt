@@ -1,5 +1,0 @@
-use Rattle.dp_algebra.proofs.RingLaws.{*ℤ_assoc, *ℤ-+ℤ}
-use Rattle.dp_algebra.proofs.laws_of_products.Goals as goal
-
-pub returns : goal.returns
-returns c = record { associate = *ℤ_assoc; distribute = *ℤ-+ℤ }
