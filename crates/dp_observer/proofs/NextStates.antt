@@ -40,9 +40,9 @@ yaw_is r g x h push off straight psi beta pushed rate is_off is_straight is_psi 
     let e = is_psi ∙ ap (λ (z : ℤ). int_rem_euclid z turn) is_straight in
     let k = is_rate ∙ ap (λ (z : ℤ). velocity_at g.damp g.k4 x.beta x.rate z off) is_pushed in
     let same = ap (λ (z : ℤ). yaw_by z beta rate) e
-        ∙ ap (λ (z : ℤ). yaw_by (int_rem_euclid (place_at g.k2 x.psi x.rate off) turn) z rate) is_beta
-        ∙ ap (λ (z : ℤ). yaw_by (int_rem_euclid (place_at g.k2 x.psi x.rate off) turn) (bias_at g.leak g.k3 x.beta off) z) k
-        ∙ ap (λ (z : ℤ). yaw_moved g x z push) is_off in
+    ∙ ap (λ (z : ℤ). yaw_by (int_rem_euclid (place_at g.k2 x.psi x.rate off) turn) z rate) is_beta
+    ∙ ap (λ (z : ℤ). yaw_by (int_rem_euclid (place_at g.k2 x.psi x.rate off) turn) (bias_at g.leak g.k3 x.beta off) z) k
+    ∙ ap (λ (z : ℤ). yaw_moved g x z push) is_off in
     subst (λ (z : YawState). SomeIff r (IsYawWithin z) z) same whole
 
 abbrev by_parts : ℤ → ℤ → ℤ → ℤ → ℤ → Component
@@ -59,14 +59,14 @@ pub component_is : (r : Option Component) (g : Gains) (x : Component) (y push of
     → SomeIff r (IsComponentWithin (component_next g x y push)) (component_next g x y push)
 component_is r g x y push off eta beta vel wave_p wave_q is_off is_eta is_beta is_vel is_p is_q whole =
     let next : ℤ → Component = λ (o : ℤ). by_parts (place_at g.k2 x.eta x.vel o) (bias_at g.leak g.k3 x.beta o) (velocity_at g.damp g.k4 x.beta x.vel push o)
-        (wave_next (entry g.wave 0) (entry g.wave 1) (entry g.k1 0) x o) (wave_next (entry g.wave 2) (entry g.wave 3) (entry g.k1 1) x o) in
+    (wave_next (entry g.wave 0) (entry g.wave 1) (entry g.k1 0) x o) (wave_next (entry g.wave 2) (entry g.wave 3) (entry g.k1 1) x o) in
     let same = ap (λ (z : ℤ). by_parts z beta vel wave_p wave_q) is_eta
-        ∙ ap (λ (z : ℤ). by_parts (place_at g.k2 x.eta x.vel off) z vel wave_p wave_q) is_beta
-        ∙ ap (λ (z : ℤ). by_parts (place_at g.k2 x.eta x.vel off) (bias_at g.leak g.k3 x.beta off) z wave_p wave_q) is_vel
-        ∙ ap (λ (z : ℤ). by_parts (place_at g.k2 x.eta x.vel off) (bias_at g.leak g.k3 x.beta off) (velocity_at g.damp g.k4 x.beta x.vel push off) z wave_q) is_p
-        ∙ ap (λ (z : ℤ). by_parts (place_at g.k2 x.eta x.vel off) (bias_at g.leak g.k3 x.beta off) (velocity_at g.damp g.k4 x.beta x.vel push off)
-            (wave_next (entry g.wave 0) (entry g.wave 1) (entry g.k1 0) x off) z) is_q
-        ∙ ap next is_off in
+    ∙ ap (λ (z : ℤ). by_parts (place_at g.k2 x.eta x.vel off) z vel wave_p wave_q) is_beta
+    ∙ ap (λ (z : ℤ). by_parts (place_at g.k2 x.eta x.vel off) (bias_at g.leak g.k3 x.beta off) z wave_p wave_q) is_vel
+    ∙ ap (λ (z : ℤ). by_parts (place_at g.k2 x.eta x.vel off) (bias_at g.leak g.k3 x.beta off) (velocity_at g.damp g.k4 x.beta x.vel push off) z wave_q) is_p
+    ∙ ap (λ (z : ℤ). by_parts (place_at g.k2 x.eta x.vel off) (bias_at g.leak g.k3 x.beta off) (velocity_at g.damp g.k4 x.beta x.vel push off)
+    (wave_next (entry g.wave 0) (entry g.wave 1) (entry g.k1 0) x off) z) is_q
+    ∙ ap next is_off in
     subst (λ (z : Component). SomeIff r (IsComponentWithin z) z) same whole
 
 pub part_is : (r : Option Component) (g : Gains) (x z : Component) (y b push driven : ℤ) → x ≡ z → y ≡ b → push ≡ driven
@@ -74,5 +74,5 @@ pub part_is : (r : Option Component) (g : Gains) (x z : Component) (y b push dri
     → SomeIff r (IsComponentWithin (component_next g z b driven)) (component_next g z b driven)
 part_is r g x z y b push driven is_state is_place is_push whole =
     let same = ap (λ (k : Component). component_next g k y push) is_state ∙ ap (λ (k : ℤ). component_next g z k push) is_place
-        ∙ ap (λ (k : ℤ). component_next g z b k) is_push in
+    ∙ ap (λ (k : ℤ). component_next g z b k) is_push in
     subst (λ (k : Component). SomeIff r (IsComponentWithin k) k) same whole

@@ -29,10 +29,8 @@ fn wave_next(by_p: i64, by_q: i64, by_place: i64, p: i64, q: i64, off: i128) -> 
     requires p { unsigned_abs p ≤ 2 ^ 56 }
     requires q { unsigned_abs q ≤ 2 ^ 56 }
     requires off { unsigned_abs off ≤ 2 ^ 58 }
-    ensures {
-        let swung = (by_p *ℤ p) +ℤ (by_q *ℤ q) in
-        result ≡ floor_of (swung +ℤ (by_place *ℤ off)) full_scale
-    }
+    ensures { let swung = (by_p *ℤ p) +ℤ (by_q *ℤ q) in
+        result ≡ floor_of (swung +ℤ (by_place *ℤ off)) full_scale }
 {
     let swung = sum(product(by_p, p as i128), product(by_q, q as i128));
     let whole = sum(swung, product(by_place, off));
@@ -41,10 +39,8 @@ fn wave_next(by_p: i64, by_q: i64, by_place: i64, p: i64, q: i64, off: i128) -> 
 
 /// These numbers, where each is within the limit.
 fn within(eta: i128, beta: i128, vel: i128, wave_p: i128, wave_q: i128) -> Option<Component>
-    ensures {
-        let x : Component = record { eta = eta; beta = beta; vel = vel; wave_p = wave_p; wave_q = wave_q } in
-        SomeIff result (IsComponentWithin x) x
-    }
+    ensures { let x : Component = record { eta = eta; beta = beta; vel = vel; wave_p = wave_p; wave_q = wave_q } in
+        SomeIff result (IsComponentWithin x) x }
 {
     Some(Component {
         eta: coordinate(eta)?,
@@ -61,9 +57,7 @@ pub(crate) fn component(gains: &Gains, x: Component, y: i64, push: i128) -> Opti
     requires state { IsComponentWithin x }
     requires place { unsigned_abs y ≤ 2 ^ 44 }
     requires push { unsigned_abs push ≤ 2 ^ 92 }
-    ensures {
-        let later = component_next gains.now x y push in SomeIff result (IsComponentWithin later) later
-    }
+    ensures { let later = component_next gains.now x y push in SomeIff result (IsComponentWithin later) later }
 {
     let off = offset(x, y);
     let eta = place_next(gains.k2, x.eta, x.vel, off);

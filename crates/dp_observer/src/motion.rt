@@ -28,10 +28,8 @@ pub(crate) fn bias_next(leak: i64, k3: i64, beta: i64, off: i128) -> i128
     requires k3 { IsShare k3 }
     requires beta { unsigned_abs beta ≤ 2 ^ 56 }
     requires off { unsigned_abs off ≤ 2 ^ 58 }
-    ensures {
-        let kept = (full_scale *ℤ beta) -ℤ (leak *ℤ beta) in
-        result ≡ floor_of (kept +ℤ (k3 *ℤ off)) full_scale
-    }
+    ensures { let kept = (full_scale *ℤ beta) -ℤ (leak *ℤ beta) in
+        result ≡ floor_of (kept +ℤ (k3 *ℤ off)) full_scale }
 {
     let kept = difference(product(ONE, beta as i128), product(leak, beta as i128));
     let whole = sum(kept, product(k3, off));
@@ -51,24 +49,15 @@ fn coasted(damp: i64, beta: i64, vel: i64) -> i128
 }
 
 /// A velocity, which is damped, and driven by the bias, by what pushes, times the scale, and by its share of how far the place is off.
-pub(crate) fn velocity_next(
-    damp: i64,
-    k4: i64,
-    beta: i64,
-    vel: i64,
-    push: i128,
-    off: i128,
-) -> i128
+pub(crate) fn velocity_next(damp: i64, k4: i64, beta: i64, vel: i64, push: i128, off: i128) -> i128
     requires damp { IsShare damp }
     requires k4 { IsShare k4 }
     requires beta { unsigned_abs beta ≤ 2 ^ 56 }
     requires vel { unsigned_abs vel ≤ 2 ^ 56 }
     requires push { unsigned_abs push ≤ 2 ^ 92 }
     requires off { unsigned_abs off ≤ 2 ^ 58 }
-    ensures {
-        let kept = (full_scale *ℤ vel) -ℤ (damp *ℤ vel) in
-        result ≡ floor_of (((kept +ℤ (full_scale *ℤ beta)) +ℤ push) +ℤ (k4 *ℤ off)) full_scale
-    }
+    ensures { let kept = (full_scale *ℤ vel) -ℤ (damp *ℤ vel) in
+        result ≡ floor_of (((kept +ℤ (full_scale *ℤ beta)) +ℤ push) +ℤ (k4 *ℤ off)) full_scale }
 {
     let pushed = sum(coasted(damp, beta, vel), push);
     let whole = sum(pushed, product(k4, off));

@@ -55,10 +55,8 @@ fn scaled_push(push: i64) -> i128
 
 /// These numbers, where each is within the limit.
 fn within(psi: i128, beta: i128, rate: i128) -> Option<YawState>
-    ensures {
-        let x : YawState = record { psi = psi; beta = beta; rate = rate } in
-        SomeIff result (IsYawWithin x) x
-    }
+    ensures { let x : YawState = record { psi = psi; beta = beta; rate = rate } in
+        SomeIff result (IsYawWithin x) x }
 {
     Some(YawState {
         psi: coordinate(psi)?,
@@ -74,10 +72,8 @@ fn next(x: &YawState, gains: &YawGains, h: u32, push: i64) -> Option<YawState>
     requires state { IsYawWithin x.now }
     requires heading { IsMeasuredHeading h }
     requires push { IsYawPush push }
-    ensures {
-        let later = yaw_next gains.now x.now (Some h) push in
-        SomeIff result (IsYawWithin later) later
-    }
+    ensures { let later = yaw_next gains.now x.now (Some h) push in
+        SomeIff result (IsYawWithin later) later }
 {
     let off = offset(x, h);
     let psi = turned(place_next(gains.k2, x.psi, x.rate, off));
@@ -88,12 +84,7 @@ fn next(x: &YawState, gains: &YawGains, h: u32, push: i64) -> Option<YawState>
 
 /// Takes one cycle: the measured heading in hundredths of a degree, if there is one, and what pushes in yaw, the demand and the wind
 /// together, in nanodegrees per cycle squared, positive clockwise. Where a coordinate would leave the limit, the state stays as it is.
-pub fn update(
-    x: &mut YawState,
-    gains: &YawGains,
-    h: Option<u32>,
-    push: i64,
-) -> Result<(), Diverged>
+pub fn update(x: &mut YawState, gains: &YawGains, h: Option<u32>, push: i64) -> Result<(), Diverged>
     requires gains { IsYawGains gains.now }
     requires state { IsYawWithin x.old }
     requires heading { IfSome h (λ n. IsMeasuredHeading n) }

@@ -67,8 +67,9 @@ pub issued : (g : Gains) (y : YawGains) (box : Box3) (plane : PlaneState) (yaw :
     → a ≡ (surge.demand ∷ sway.demand ∷ turn.demand ∷ []) → limited ≡ (surge.limited ∷ sway.limited ∷ turn.limited ∷ [])
     → (a ≡ demands_of g y box plane yaw s pair wind) × (limited ≡ limited_of g y box plane yaw s pair wind) × IsInBox box a × AreDemands a
 issued g y box plane yaw s pair wind surge sway turn a limited plane_box yaw_box in_surge in_sway in_yaw is_a is_limited =
-    let held : IsInBox box a = subst (λ (z : List ℤ). IsInBox box z) (sym is_a) (record { surge = in_surge.range; sway = in_sway.range; yaw = in_yaw.range }) in
-    ( is_a ∙ three_are _ _ _ _ _ _ in_surge.demand in_sway.demand in_yaw.demand
-    , is_limited ∙ three_are _ _ _ _ _ _ in_surge.limited in_sway.limited in_yaw.limited
-    , held
-    , demands_within box a plane_box yaw_box held )
+    let held : IsInBox box a = subst (λ (z : List ℤ). IsInBox box z) (sym is_a) (record { surge = in_surge.range; sway = in_sway.range; yaw = in_yaw.range }) in (
+      is_a ∙ three_are _ _ _ _ _ _ in_surge.demand in_sway.demand in_yaw.demand,
+      is_limited ∙ three_are _ _ _ _ _ _ in_surge.limited in_sway.limited in_yaw.limited,
+      held,
+      demands_within box a plane_box yaw_box held,
+    )

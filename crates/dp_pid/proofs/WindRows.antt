@@ -12,17 +12,40 @@ three_shares x y p q (suc (suc zero)) = omega (arith, ints)
 three_shares x y p q (suc (suc (suc k))) = omega (arith, ints)
 
 pub built_in_shares : (table : List (List ℤ)) → table ≡ built_in_push → All AreWindShares table
-built_in_shares table is = subst (All AreWindShares) (sym is) (All-from_recursion AreWindShares built_in_push
-    (three_shares _ _ (omega (arith, ints)) (omega (arith, ints))
-    , (three_shares _ _ (omega (arith, ints)) (omega (arith, ints))
-    , (three_shares _ _ (omega (arith, ints)) (omega (arith, ints))
-    , (three_shares _ _ (omega (arith, ints)) (omega (arith, ints))
-    , (three_shares _ _ (omega (arith, ints)) (omega (arith, ints))
-    , (three_shares _ _ (omega (arith, ints)) (omega (arith, ints))
-    , (three_shares _ _ (omega (arith, ints)) (omega (arith, ints))
-    , (three_shares _ _ (omega (arith, ints)) (omega (arith, ints))
-    , (three_shares _ _ (omega (arith, ints)) (omega (arith, ints))
-    , (three_shares _ _ (omega (arith, ints)) (omega (arith, ints))
-    , (three_shares _ _ (omega (arith, ints)) (omega (arith, ints))
-    , (three_shares _ _ (omega (arith, ints)) (omega (arith, ints))
-    , tt)))))))))))))
+built_in_shares table is = subst (All AreWindShares) (sym is) (All-from_recursion AreWindShares built_in_push (
+  three_shares _ _ (omega (arith, ints)) (omega (arith, ints)),
+  (
+    three_shares _ _ (omega (arith, ints)) (omega (arith, ints)),
+    (
+      three_shares _ _ (omega (arith, ints)) (omega (arith, ints)),
+      (
+        three_shares _ _ (omega (arith, ints)) (omega (arith, ints)),
+        (
+          three_shares _ _ (omega (arith, ints)) (omega (arith, ints)),
+          (
+            three_shares _ _ (omega (arith, ints)) (omega (arith, ints)),
+            (
+              three_shares _ _ (omega (arith, ints)) (omega (arith, ints)),
+              (
+                three_shares _ _ (omega (arith, ints)) (omega (arith, ints)),
+                (
+                  three_shares _ _ (omega (arith, ints)) (omega (arith, ints)),
+                  (
+                    three_shares _ _ (omega (arith, ints)) (omega (arith, ints)),
+                    (
+                      three_shares _ _ (omega (arith, ints)) (omega (arith, ints)),
+                      (
+                        three_shares _ _ (omega (arith, ints)) (omega (arith, ints)),
+                        tt,
+                      ),
+                    ),
+                  ),
+                ),
+              ),
+            ),
+          ),
+        ),
+      ),
+    ),
+  ),
+))

@@ -51,10 +51,8 @@ fn plane_answer(g: &Gains, b: &Box3, j: usize, along: Along, wind: i64) -> Answe
     requires axis { j < 2 }
     requires along { IsAlongWithin along }
     requires wind { unsigned_abs wind ≤ 2 ^ 31 }
-    ensures {
-        let axis = plane_axis g.now b.now j in
-        IsPlaneAnswer axis (asked_of_plane axis along wind) result
-    }
+    ensures { let axis = plane_axis g.now b.now j in
+        IsPlaneAnswer axis (asked_of_plane axis along wind) result }
 {
     let axis = plane_axis(g, b, j);
     axis.on_plane(along, wind)
@@ -66,10 +64,8 @@ fn yaw_answer(y: &YawGains, b: &Box3, along: Along, wind: i64) -> Answer
     requires limits { IsYawBox b.now }
     requires along { IsAlongWithin along }
     requires wind { unsigned_abs wind ≤ 2 ^ 31 }
-    ensures {
-        let axis = yaw_axis y.now b.now in
-        IsYawAnswer axis (asked_of_yaw axis along wind) result
-    }
+    ensures { let axis = yaw_axis y.now b.now in
+        IsYawAnswer axis (asked_of_yaw axis along wind) result }
 {
     let axis = yaw_axis(y, b);
     axis.in_yaw(along, wind)
@@ -108,9 +104,7 @@ pub fn issue(
     requires pair { IsPair pair }
     requires wind { IsWindPush wind }
     ensures a { result.a ≡ demands_of g.now y.now b.now plane.now yaw.now setpoint.now pair wind }
-    ensures limited {
-        result.limited ≡ limited_of g.now y.now b.now plane.now yaw.now setpoint.now pair wind
-    }
+    ensures limited { result.limited ≡ limited_of g.now y.now b.now plane.now yaw.now setpoint.now pair wind }
     ensures in_box { IsInBox b.now result.a }
     ensures within { AreDemands result.a }
 {

@@ -114,10 +114,26 @@ const NONE: [bool; 3] = [false; 3];
 #[test]
 fn goes_to_the_setpoint(rt: HostRuntime) {
     let calm = [0; 3];
-    check(&rt, &REST, &STILL, &NORTH, AHEAD, calm, ([156_249, 0, 0], NONE));
+    check(
+        &rt,
+        &REST,
+        &STILL,
+        &NORTH,
+        AHEAD,
+        calm,
+        ([156_249, 0, 0], NONE),
+    );
     // the bow east, north is to port
     let east = (0, 1 << 30);
-    check(&rt, &REST, &STILL, &NORTH, east, calm, ([0, -279_397, 0], NONE));
+    check(
+        &rt,
+        &REST,
+        &STILL,
+        &NORTH,
+        east,
+        calm,
+        ([0, -279_397, 0], NONE),
+    );
 }
 
 #[test]
@@ -131,19 +147,43 @@ fn turns_the_nearer_way(rt: HostRuntime) {
         at: ZERO,
         psi: 1_000_000_000,
     };
-    check(&rt, &REST, &west, &to, AHEAD, [0; 3], ([0, 0, 312_499], NONE));
+    check(
+        &rt,
+        &REST,
+        &west,
+        &to,
+        AHEAD,
+        [0; 3],
+        ([0, 0, 312_499], NONE),
+    );
 }
 
 #[test]
 fn holds_against_the_wind(rt: HostRuntime) {
     let push = [-3_280_541, -4_037_588, 0];
-    check(&rt, &REST, &STILL, &HOME, AHEAD, push, ([3_280_541, 4_037_588, 0], NONE));
+    check(
+        &rt,
+        &REST,
+        &STILL,
+        &HOME,
+        AHEAD,
+        push,
+        ([3_280_541, 4_037_588, 0], NONE),
+    );
     // on the ends of the box, and past one of them
     let ends = [50_000_000, -30_000_000, 60_000_000];
     let push = [-50_000_000, 30_000_000, -60_000_000];
     check(&rt, &REST, &STILL, &HOME, AHEAD, push, (ends, NONE));
     let push = [-50_000_000, 30_000_001, -60_000_000];
-    check(&rt, &REST, &STILL, &HOME, AHEAD, push, (ends, [false, true, false]));
+    check(
+        &rt,
+        &REST,
+        &STILL,
+        &HOME,
+        AHEAD,
+        push,
+        (ends, [false, true, false]),
+    );
 }
 
 #[test]
