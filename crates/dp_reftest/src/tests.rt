@@ -58,7 +58,11 @@ fn gives_the_verdicts_of_the_table(rt: HostRuntime) -> Result<(), Memory> {
         (4, "-", Verdict::Silent),
         (4, "0", usable(0, 1048576)),
         (4, "0 2000000000", usable(2000000000, 1)),
-        (4, "0 5000000000 0 5000000000", Verdict::Noisy { variance: 6250000 }),
+        (
+            4,
+            "0 5000000000 0 5000000000",
+            Verdict::Noisy { variance: 6250000 },
+        ),
         (4, "0 5001000000", Verdict::Jumped),
         (4, "0 5001000000 5001000000", Verdict::Jumped),
         (4, "0 1 2 - - -", usable(2, 1048576)),
@@ -156,7 +160,9 @@ fn variance(list: &[Place]) -> i128 {
         let (north, east) = (at.north as i128, at.east as i128);
         x = x.wrapping_add(north);
         y = y.wrapping_add(east);
-        let both = north.wrapping_mul(north).wrapping_add(east.wrapping_mul(east));
+        let both = north
+            .wrapping_mul(north)
+            .wrapping_add(east.wrapping_mul(east));
         square = square.wrapping_add(both);
     }
     let sums = x.wrapping_mul(x).wrapping_add(y.wrapping_mul(y));
@@ -211,7 +217,9 @@ fn agrees_with_the_tests_over_the_whole_list(rt: HostRuntime) -> Result<(), Memo
     };
     let mut bits = 1u64;
     for cycle in 0..10_000 {
-        bits = bits.wrapping_mul(6364136223846793005).wrapping_add(1442695040888963407);
+        bits = bits
+            .wrapping_mul(6364136223846793005)
+            .wrapping_add(1442695040888963407);
         let reading = generated(cycle, bits);
         test.take(cycle, reading);
         plain.note(cycle, reading);
