@@ -1,5 +1,5 @@
 -- The verdict that is read off the sums of a window is the verdict on the window.
-use Rattle.std.proofs.Common.{◌≡◌, ℕ, zero, suc, ◌+◌, ◌-◌, ◌≤◌, ◌<◌, Bool, true, false, List, [], ◌∷◌, length, map, refl, sym, ap, subst, ◌∙◌, arith, ℤ, pos, ◌*ℤ◌}
+use Rattle.std.proofs.Common.{◌≡◌, ℕ, suc, ◌+◌, ◌-◌, ◌≤◌, Bool, true, false, List, [], ◌∷◌, length, refl, sym, ap, ◌∙◌, arith, ℤ, pos, ◌*ℤ◌}
 use Rattle.std.proofs.lemmas.Bool.{lt-ltb, eq-eqb, ne_eqb, eqb-true, eqb-false}
 use Rattle.std.specs.Prelude.{◌==◌, ◌&&◌, ◌||◌, ◌^◌, not, nat_lt, int_lt, cond, if◌then◌else◌}
 use Rattle.dp_fixed.specs.Division.{floor_of}
@@ -10,7 +10,7 @@ use Rattle.dp_plant.specs.declared.references.Verdict.TheVariants.{Silent, Stale
 use Rattle.dp_reftest.proofs.Spreads.{spread_is}
 use Rattle.dp_reftest.specs.Running.{is_frozen_by, variance_by, verdict_by, verdict_by_samples, verdict_by_variance}
 use Rattle.dp_reftest.specs.Totals.{EndsIn, is_same, neighbours_from, sums_of}
-use Rattle.dp_reftest.specs.Verdict.{is_frozen, is_jump, jumps, jumps_from, newest_from, variance_of, verdict_of, verdict_on, weight_of}
+use Rattle.dp_reftest.specs.Verdict.{is_frozen, is_jump, jumps, jumps_from, newest_from, variance_of, verdict_of, weight_of}
 use Rattle.dp_reftest.specs.Window.{kept_by}
 
 -- ---- whether any neighbours jump, by how many do

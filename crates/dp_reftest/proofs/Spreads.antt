@@ -1,5 +1,5 @@
 -- The square of a sum is at most the count times the sum of the squares, so no variance is below 0.
-use Rattle.std.proofs.Common.{◌≡◌, ℕ, suc, List, [], ◌∷◌, length, map, refl, sym, ap, subst, ◌∙◌, arith, ℤ, pos, ◌+ℤ◌, ◌-ℤ◌, ◌*ℤ◌, ◌≤ℤ◌, ◌<ℤ◌, ◌<◌}
+use Rattle.std.proofs.Common.{◌≡◌, ℕ, suc, List, [], ◌∷◌, length, map, refl, ap, subst, ◌∙◌, arith, ℤ, pos, ◌+ℤ◌, ◌-ℤ◌, ◌*ℤ◌, ◌≤ℤ◌, ◌<ℤ◌, ◌<◌}
 use Rattle.std.specs.Prelude.{◌^◌}
 use Rattle.dp_reftest.specs.declared.sums.Sums.{Sums}
 use Rattle.std.proofs.lemmas.Int.{ints}

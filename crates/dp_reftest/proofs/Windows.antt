@@ -1,18 +1,17 @@
 -- The window that is kept is the last of the readings that came.
-use Rattle.std.proofs.Common.{◌≡◌, ◌<◌, ◌≤◌, ℕ, zero, suc, ◌+◌, ◌-◌, List, [], ◌∷◌, ◌++◌, length, drop, Option, Some, None, refl, sym, ap, subst, ◌∙◌, arith}
+use Rattle.std.proofs.Common.{◌≡◌, ◌<◌, ◌≤◌, ℕ, suc, ◌+◌, ◌-◌, List, [], ◌∷◌, ◌++◌, length, drop, Option, Some, None, refl, sym, ap, ◌∙◌, arith}
 use Rattle.std.proofs.lemmas.List.{append-nil, append_assoc, drop-append-le, drop-drop, length-append, length-drop}
 use Rattle.std.proofs.Math.Seq.{drop-nil}
 use Rattle.std.specs.List.{cons_option}
 use Rattle.std.specs.Prelude.{◌^◌, IfSome}
 use Rattle.dp_plant.specs.declared.frames.Frame.{Frame}
 use Rattle.dp_plant.specs.declared.place.Place.{Place}
-use Rattle.dp_plant.specs.declared.references.RefLimits.{RefLimits}
 use Rattle.dp_plant.specs.Ranges.{IsVectorWithin}
 use Rattle.dp_reftest.proofs.Rings.{near_drop, near_push}
 use Rattle.dp_reftest.specs.declared.kept.Kept.{Kept}
 use Rattle.dp_reftest.specs.Laws.{VerdictRestsOnItsOwnWire, WindowIsTheLastReadings}
 use Rattle.dp_reftest.specs.Verdict.{verdict_of}
-use Rattle.dp_reftest.specs.Window.{AreNear, IsDated, IsKept, brought_on, kept_by, last_of, newest_in, newest_of, no_samples, readings_of, window_after, window_next}
+use Rattle.dp_reftest.specs.Window.{IsDated, IsKept, brought_on, kept_by, last_of, newest_in, newest_of, no_samples, readings_of, window_after, window_next}
 
 -- the last of what is kept and one more are the last of all and one more
 last-kept : {X : Type 0} (w : ℕ) (xs : List X) (x : X) → last_of w (last_of w xs ++ x ∷ []) ≡ last_of w (xs ++ x ∷ [])

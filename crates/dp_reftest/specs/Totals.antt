@@ -1,5 +1,5 @@
 -- The sums of a list of places.
-use Rattle.std.specs.Prelude.{◌≡◌, ◌≤◌, ◌^◌, ℕ, ◌+◌, ◌*◌, ◌-◌, Bool, not, if◌then◌else◌, List, [], ◌∷◌, length, map, Option, Some, None, ℤ, pos, ◌+ℤ◌, ◌*ℤ◌, ◌≤ℤ◌, unsigned_abs}
+use Rattle.std.specs.Prelude.{◌≡◌, ◌≤◌, ◌^◌, ℕ, ◌+◌, ◌*◌, ◌-◌, Bool, not, if◌then◌else◌, List, [], ◌∷◌, length, map, ℤ, pos, ◌+ℤ◌, ◌*ℤ◌, ◌≤ℤ◌, unsigned_abs}
 use Rattle.dp_plant.specs.declared.place.Place.{Place}
 use Rattle.dp_reftest.specs.declared.sums.Sums.{Sums}
 use Rattle.dp_reftest.specs.Verdict.{is_jump, newest_from, sum_of}

@@ -20,7 +20,8 @@ impl Sums {
         requires few { self.now.n ≤ limits.now.window }
         requires sums { AreSums self.now }
         requires last { last ≤ now }
-        ensures value { (xs : List Place) → AreNear xs → self.now ≡ sums_of limits.now.jump xs → EndsIn newest xs → result ≡ verdict_of limits.now (kept_by last xs) now }
+        ensures value { (xs : List Place) → AreNear xs → self.now ≡ sums_of limits.now.jump xs → EndsIn newest xs →
+            result ≡ verdict_of limits.now (kept_by last xs) now }
         ensures within { IsVectorWithin (2 ^ 43) newest → IsVerdictWithin result }
     {
         self.judged(limits, newest, now - last)
@@ -87,10 +88,7 @@ impl Sums {
         requires sums { AreSums self.now }
         ensures { result ≡ spread_by self.now }
     {
-        less_square(
-            less_square(times(self.n, self.square), self.x),
-            self.y,
-        )
+        less_square(less_square(times(self.n, self.square), self.x), self.y)
     }
 }
 

@@ -4,11 +4,9 @@ ghost use Rattle.dp_reftest.specs.Laws.{VerdictRestsOnItsOwnWire, WindowIsTheLas
 /// The window of a reference is the last of all its readings.
 pub fn window_is_the_last_readings()
     ensures { WindowIsTheLastReadings }
-{
-}
+{}
 
 /// A reference's window and verdict rest on its own wire alone.
 pub fn verdict_rests_on_its_own_wire()
     ensures { VerdictRestsOnItsOwnWire }
-{
-}
+{}

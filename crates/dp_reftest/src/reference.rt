@@ -103,7 +103,12 @@ impl RefTest {
     {
         self.ring.clear();
         self.sums = NO_SUMS;
-        fill(&mut self.ring, &mut self.sums, kept.list.as_slice(), self.limits.jump);
+        fill(
+            &mut self.ring,
+            &mut self.sums,
+            kept.list.as_slice(),
+            self.limits.jump,
+        );
         self.last = kept.last;
         self.next = next;
     }

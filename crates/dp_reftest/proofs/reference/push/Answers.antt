@@ -1,4 +1,4 @@
-use Rattle.std.proofs.Common.{◌≡◌, List, [], ◌∷◌, ◌++◌, ap, ◌∙◌}
+use Rattle.std.proofs.Common.{List, [], ◌∷◌, ◌++◌, ap, ◌∙◌}
 use Rattle.circular_buffer.specs.Buffer.{Buffer, buffer}
 use Rattle.dp_plant.specs.declared.place.Place.{Place}
 use Rattle.dp_reftest.proofs.Windows.{room_then_one}

@@ -1,6 +1,3 @@
-use Rattle.std.proofs.Common.{◌≡◌, refl, ap, sym, ◌∙◌, arith}
-use Rattle.circular_buffer.specs.Buffer.{Buffer, buffer}
-use Rattle.dp_plant.specs.declared.place.Place.{Place}
 use Rattle.dp_reftest.proofs.Testing.{begun}
 use Rattle.dp_reftest.proofs.reference.RefTest.new.Goals as goal
 

@@ -1,5 +1,4 @@
-use Rattle.std.proofs.Common.{◌≡◌, w64, of_z, to_z, arith}
-use Rattle.std.proofs.lemmas.Int.{to_z-of_z}
+use Rattle.std.proofs.Common.{w64, of_z, to_z}
 use Rattle.dp_reftest.proofs.Rings.{none_running}
 use Rattle.dp_reftest.proofs.reference.RefTest.set.Goals as goal
 

@@ -1,8 +1,8 @@
-use Rattle.std.proofs.Common.{◌≡◌, ◌-◌, pos, sym, ap, ◌∙◌, arith}
+use Rattle.std.proofs.Common.{◌-◌, pos, ap, ◌∙◌, arith}
 use Rattle.dp_reftest.specs.Tested.{Tested}
 use Rattle.dp_reftest.specs.Verdict.{verdict_of}
 use Rattle.dp_reftest.specs.Window.{kept_by}
-use Rattle.dp_reftest.proofs.Rings.{counted, last_near, sums_are}
+use Rattle.dp_reftest.proofs.Rings.{counted, sums_are}
 use Rattle.dp_reftest.proofs.Testing.{newest_ends, newest_near, origin_near}
 use Rattle.dp_reftest.proofs.reference.RefTest.usable.Goals as goal
 

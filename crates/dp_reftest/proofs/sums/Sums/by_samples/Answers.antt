@@ -1,4 +1,4 @@
-use Rattle.std.proofs.Common.{rules, ◌≡◌, pos, ◌≤ℤ◌, of_z, to_z}
+use Rattle.std.proofs.Common.{rules, ◌≡◌, of_z, to_z}
 use mir.Syntax.{w128}
 use Rattle.std.proofs.lemmas.Int.{to_z-of_z}
 use Rattle.dp_reftest.proofs.Spreads.{variance_low}

@@ -1,4 +1,4 @@
-use Rattle.std.proofs.Common.{◌≡◌, ◌-◌, ap, ◌∙◌}
+use Rattle.std.proofs.Common.{◌-◌, ap, ◌∙◌}
 use Rattle.dp_reftest.proofs.Reading.{verdict_by_sums}
 use Rattle.dp_reftest.specs.Running.{verdict_by}
 use Rattle.dp_reftest.proofs.sums.Sums.verdict.Goals as goal
