@@ -18,8 +18,10 @@
 
 mod built_in;
 mod cert;
+mod fault;
 mod frames;
 mod gains;
+mod keys;
 mod limits;
 mod lists;
 mod place;
@@ -33,6 +35,7 @@ mod yaw;
 
 pub use built_in::p0;
 pub use cert::{Cert, Key, Lists, Parts};
+pub use fault::PlantFault;
 pub use frames::{Frame, Gust, Slot, Wire};
 pub use gains::{Gains, YawGains};
 pub use limits::{Box3, Setpoint};
