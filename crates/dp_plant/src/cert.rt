@@ -1,5 +1,7 @@
+ghost use Rattle.std.specs.Prelude.{◌≡◌};
 ghost use Rattle.dp_form.specs.Form.{IsSymmetric};
 
+use crate::lists::copied;
 use arrayvec::ArrayString;
 use dp_form::{Squares, Sym};
 
@@ -42,4 +44,96 @@ pub struct Cert {
     pub r: i64,
     pub g: [i64; 2],
     pub parts: Parts,
+}
+
+fn copied_squares<const N: usize>(squares: &Squares<N>) -> Squares<N>
+    ensures { result ≡ squares.now }
+{
+    Squares {
+        list: copied(&squares.list),
+    }
+}
+
+fn copied_two<const N: usize>(lists: &[Squares<N>; 2]) -> [Squares<N>; 2]
+    ensures { result ≡ lists.now }
+{
+    [copied_squares(&lists[0]), copied_squares(&lists[1])]
+}
+
+fn copied_three<const N: usize>(lists: &[Squares<N>; 3]) -> [Squares<N>; 3]
+    ensures { result ≡ lists.now }
+{
+    [
+        copied_squares(&lists[0]),
+        copied_squares(&lists[1]),
+        copied_squares(&lists[2]),
+    ]
+}
+
+fn copied_five<const N: usize>(lists: &[Squares<N>; 5]) -> [Squares<N>; 5]
+    ensures { result ≡ lists.now }
+{
+    [
+        copied_squares(&lists[0]),
+        copied_squares(&lists[1]),
+        copied_squares(&lists[2]),
+        copied_squares(&lists[3]),
+        copied_squares(&lists[4]),
+    ]
+}
+
+fn copied_vertices<const N: usize>(lists: &[[Squares<N>; 3]; 2]) -> [[Squares<N>; 3]; 2]
+    ensures { result ≡ lists.now }
+{
+    [copied_three(&lists[0]), copied_three(&lists[1])]
+}
+
+fn copied_outputs<const N: usize>(lists: &[[Squares<N>; 2]; 2]) -> [[Squares<N>; 2]; 2]
+    ensures { result ≡ lists.now }
+{
+    [copied_two(&lists[0]), copied_two(&lists[1])]
+}
+
+impl<const N: usize> Lists<N> {
+    // with the given copy of the squares that show the spans
+    fn copy_with(&self, spans: [Squares<N>; N]) -> Self
+        requires { spans ≡ self.now.spans }
+        ensures { result ≡ self.now }
+    {
+        Lists {
+            p: self.p,
+            span: self.span,
+            form: copied_squares(&self.form),
+            vertex: copied_vertices(&self.vertex),
+            output: copied_outputs(&self.output),
+            spans,
+        }
+    }
+}
+
+impl Parts {
+    /// Equal parts, which take no memory.
+    pub fn copy(&self) -> Self
+        ensures { result ≡ self.now }
+    {
+        match self {
+            Parts::Three(lists) => Parts::Three(lists.copy_with(copied_three(&lists.spans))),
+            Parts::Five(lists) => Parts::Five(lists.copy_with(copied_five(&lists.spans))),
+        }
+    }
+}
+
+impl Cert {
+    /// An equal certificate, which takes no memory: each field is equal, and each list has the same squares.
+    pub fn copy(&self) -> Self
+        ensures { result ≡ self.now }
+    {
+        Cert {
+            rho: self.rho,
+            b: self.b,
+            r: self.r,
+            g: self.g,
+            parts: self.parts.copy(),
+        }
+    }
 }
