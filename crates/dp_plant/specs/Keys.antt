@@ -1,5 +1,5 @@
 -- How a key of the plant file is judged: first Missing, then Kind, then Range.
-use Rattle.std.specs.Prelude.{◌≡◌, ℕ, ◌+◌, ◌-◌, ℤ, pos, neg_ℤ, nat_abs, int_le, ◌&&◌, Bool, true, nat_le, if◌then◌else◌, List, [], ◌∷◌, ◌++◌, length, Option, Some, None, option_map, option_and_then, Result, Ok, Err, decimal}
+use Rattle.std.specs.Prelude.{◌≡◌, ℕ, suc, ◌+◌, ℤ, pos, neg_ℤ, nat_abs, ◌≤ℤ◌, int_le, ◌&&◌, Bool, nat_le, if◌then◌else◌, List, [], ◌∷◌, ◌++◌, length, Option, Some, None, option_map, option_and_then, Result, Ok, Err, decimal}
 use Rattle.std.specs.Borrow.{Bor}
 use Rattle.std.specs.List.{list_all, zip}
 use Rattle.toml.specs.Data.{Data, Items, no_items, item, get, as_integer, as_array, as_table}
@@ -116,6 +116,11 @@ is_within bounds z = int_le bounds.0 z && int_le z bounds.1
 -- each number is within the bounds at its place
 abbrev pub are_within : List (ℤ × ℤ) → List ℤ → Bool
 are_within bounds zs = list_all (λ p. is_within p.0 p.1) (zip bounds zs)
+
+-- the same, of numbers by their index
+abbrev pub AreBetween : List (ℤ × ℤ) → (ℕ → ℤ) → Type 0
+AreBetween [] number = Unit {0}
+AreBetween (b ∷ bs) number = ((b.0 ≤ℤ number 0) × (number 0 ≤ℤ b.1)) × AreBetween bs (λ k. number (suc k))
 
 -- ---- arrays
 

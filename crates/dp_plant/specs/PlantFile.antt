@@ -9,6 +9,10 @@ use Rattle.dp_plant.specs.declared.cert.Cert.{Cert}
 use Rattle.dp_plant.specs.declared.cert.Lists.{Lists}
 use Rattle.dp_plant.specs.declared.cert.Parts.{Parts}
 use Rattle.dp_plant.specs.declared.cert.Parts.TheVariants.{Three, Five}
+use Rattle.dp_plant.specs.declared.file.certificate.Steps.{Steps}
+use Rattle.dp_plant.specs.declared.file.gains.WaveGains.{WaveGains}
+use Rattle.dp_plant.specs.declared.file.references.Reference.{Reference}
+use Rattle.dp_plant.specs.declared.file.vessel.Vessel.{Vessel}
 use Rattle.dp_plant.specs.declared.gains.Gains.{Gains}
 use Rattle.dp_plant.specs.declared.gains.YawGains.{YawGains}
 use Rattle.dp_plant.specs.declared.limits.Setpoint.{Setpoint}
@@ -20,16 +24,6 @@ use Rattle.dp_plant.specs.declared.wind.WindTable.{WindTable}
 use Rattle.dp_plant.specs.Vectors.{entry}
 
 -- ---- [plant]
-
-pub record Vessel : Type 0 where
-  pub version : ℕ
-  pub cycle_ms : ℕ
-  pub origin : List ℤ
-  pub start : Setpoint
-  pub setpoint : Setpoint
-  pub groups : ℕ
-  pub mass : List ℤ
-  pub tol : List ℤ
 
 -- north and east in mm, and a heading in hundredths of a degree
 abbrev pub spot : List (ℤ × ℤ)
@@ -68,10 +62,6 @@ vessel_at document = do
   })
 
 -- ---- [[ref]], three tables
-
-pub record Reference : Type 0 where
-  pub limits : RefLimits
-  pub lever : ℤ × ℤ
 
 unfoldable pub ref_at : ℕ → Data → Result Reference Fault
 ref_at i d = do
@@ -163,10 +153,6 @@ unfoldable pub cases_at : Option Data → ℕ → ℕ → Result (List RawCase) 
 cases_at document groups thrusters = tables_at document (codes "case") 1 32 >>= cases_after groups thrusters [] >>= all_there groups
 
 -- ---- [gains] and [yaw]; their ranges are judged with the certificate
-
-pub record WaveGains : Type 0 where
-  pub wave : List ℤ
-  pub k1 : List ℤ
 
 abbrev pub no_waves : WaveGains
 no_waves = record { wave = replicate 4 (pos 0); k1 = replicate 2 (pos 0) }
@@ -272,13 +258,16 @@ two_at n cert first second = do
   y ← squares_at n cert second
   Ok (x ∷ y ∷ [])
 
-pub record Steps : Type 0 where
+pub record StepRows : Type 0 where
   pub form : List (List ℤ)
   pub vertex : List (List (List (List ℤ)))
   pub output : List (List (List (List ℤ)))
 
+abbrev pub steps_view : {n : ℕ} → Steps n → StepRows
+steps_view x = record { form = square_rows x.form; vertex = map (map square_rows) x.vertex; output = map (map square_rows) x.output }
+
 -- the squares of the form, of the vertices of both axes, and of their demands
-unfoldable pub steps_at : ℕ → Section → Result Steps Fault
+unfoldable pub steps_at : ℕ → Section → Result StepRows Fault
 steps_at n cert = do
   form ← squares_at n cert (codes "form")
   surge ← three_at n cert (codes "surge0") (codes "surge1") (codes "surge2")
@@ -322,7 +311,7 @@ lists_of_five cert = do
 
 -- version 1 has three states, version 2 five
 unfoldable pub parts_at : ℕ → Section → Result PartsData Fault
-parts_at version cert = if version == 1 then lists_of_three cert >>= λ x. Ok (of_three x) else lists_of_five cert >>= λ x. Ok (of_five x)
+parts_at version cert = if version == 1 then lists_of_three cert >>= (λ x. Ok (of_three x)) else lists_of_five cert >>= (λ x. Ok (of_five x))
 
 abbrev pub parts_view : Parts → PartsData
 parts_view (Three x) = of_three (lists_view x)

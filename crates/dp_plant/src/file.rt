@@ -10,11 +10,13 @@ mod certificate;
 mod gains;
 mod references;
 mod thrusters;
+mod units;
 mod vessel;
 
 use crate::{Plant, PlantFault};
 use std::alloc::Global;
 use toml::Value;
+use vessel::Vessel;
 
 /// The plant of a file, which is a TOML document.
 ///
@@ -57,23 +59,32 @@ fn document_of(alloc: Global, bytes: &[u8]) -> Result<Value, PlantFault>
 fn plant_in(document: Option<&Value>) -> Result<Plant, PlantFault>
     ensures { Gives plant_view result (plant_at (seen document.entry)) }
 {
-    let vessel = vessel::vessel_of(document)?;
+    let Vessel {
+        version,
+        cycle_ms,
+        origin,
+        start,
+        setpoint,
+        groups,
+        mass,
+        tol,
+    } = vessel::vessel_of(document)?;
     let [first, second, third] = references::refs_of(document)?;
     let wind = vessel::wind_of(document)?;
-    let thrusters = thrusters::thrusters_of(document, vessel.groups)?;
-    let cases = cases::cases_of(document, vessel.groups, thrusters.len())?;
-    let gains = gains::gains_of(document, vessel.version)?;
+    let thrusters = thrusters::thrusters_of(document, groups)?;
+    let cases = cases::cases_of(document, groups, thrusters.len())?;
+    let gains = gains::gains_of(document, version)?;
     let yaw = gains::yaw_of(document)?;
-    let cert = certificate::cert_of(document, vessel.version)?;
+    let cert = certificate::cert_of(document, version)?;
     Ok(Plant {
-        version: vessel.version,
-        cycle_ms: vessel.cycle_ms,
-        origin: vessel.origin,
-        start: vessel.start,
-        setpoint: vessel.setpoint,
-        groups: vessel.groups,
-        mass: vessel.mass,
-        tol: vessel.tol,
+        version,
+        cycle_ms,
+        origin,
+        start,
+        setpoint,
+        groups,
+        mass,
+        tol,
         refs: [first.limits, second.limits, third.limits],
         levers: [first.lever, second.lever, third.lever],
         wind,

@@ -1,12 +1,13 @@
 ghost use Rattle.std.specs.Prelude.{
-    IfOk, IfSome, is_some, length, map, option_map, pos, ℕ, ℤ, ◌+◌, ◌<◌, ◌≡◌, ◌≤ℤ◌, ◌≤◌,
+    IfOk, IfSome, is_some, length, map, option_map, pos, ℤ, ◌+◌, ◌∷◌, ◌<◌, ◌≡◌, ◌≤ℤ◌, ◌≤◌,
 };
 ghost use Rattle.std.specs.List.{list_all};
 ghost use Rattle.toml.specs.Data.{as_integer, as_table};
 ghost use Rattle.toml.specs.View.{items_view, view};
 ghost use Rattle.dp_plant.specs.Keys as Keys;
-ghost use Rattle.dp_plant.specs.Keys.{Gives, all_some, in_section, rows, seen, tables, wholes};
+ghost use Rattle.dp_plant.specs.Keys.{AreBetween, Gives, all_some, in_section, rows, seen, tables, wholes};
 ghost use Rattle.dp_plant.specs.PlantFile.{square_row, square_rows};
+ghost use Rattle.dp_plant.specs.Vectors.{entry};
 
 use crate::{Key, PlantFault};
 use arrayvec::ArrayVec;
@@ -181,17 +182,18 @@ pub(crate) fn numbers_at<const N: usize>(
     }
 }
 
-fn are_within(bounds: &[(i64, i64)], numbers: &[i64]) -> bool
-    ensures { result ≡ Keys.are_within bounds.now numbers.now }
+fn are_within<const N: usize>(bounds: &[(i64, i64); N], numbers: &[i64; N]) -> bool
+    ensures value { result ≡ Keys.are_within bounds.now numbers.now }
+    ensures wide { (length bounds.now ≡ N) × (length numbers.now ≡ N) }
 {
     bounds
         .iter()
-        .zip(numbers)
+        .zip(numbers.iter())
         .all(|(bound, number)| bound.0 <= *number && *number <= bound.1)
 }
 
 /// The whole numbers at a key, each within its bounds.
-#[tactic(auto, unfolding(crate::specs::Keys::wholes_at))]
+#[tactic(auto, unfolding(crate::specs::Keys::wholes_at), using(crate::proofs::Between::all_between))]
 pub(crate) fn wholes_at<const N: usize>(
     holder: Option<&Value>,
     section: &str,
@@ -199,10 +201,11 @@ pub(crate) fn wholes_at<const N: usize>(
     bounds: &[(i64, i64); N],
 ) -> Result<[i64; N], PlantFault>
     requires { length section.now + length name.now < 48 }
-    ensures {
+    ensures exact {
         Gives (λ zs. zs) result
             (Keys.wholes_at (in_section section.now holder.entry) name.now bounds.now)
     }
+    ensures within { IfOk result (λ zs. AreBetween bounds.now (entry zs)) }
 {
     let numbers: [i64; N] = numbers_at(holder, section, name)?;
     if !are_within(bounds, &numbers) {
@@ -215,7 +218,8 @@ pub(crate) fn wholes_at<const N: usize>(
 
 fn rows_in<const N: usize, const CAP: usize>(items: &[Value]) -> Option<ArrayVec<[i64; N], CAP>>
     requires { length items.now ≤ CAP }
-    ensures { option_map (λ v. v.items) result ≡ all_some (wholes N) (items_view items.now) }
+    ensures value { option_map (λ v. v.items) result ≡ all_some (wholes N) (items_view items.now) }
+    ensures long { IfSome result (λ v. length v.items ≡ length items.now) }
 {
     let mut rows = ArrayVec::new();
     for item in items {
@@ -233,7 +237,8 @@ fn rows_of<const N: usize, const CAP: usize>(
     count: usize,
 ) -> Option<ArrayVec<[i64; N], CAP>>
     requires { count ≤ CAP }
-    ensures { option_map (λ v. v.items) result ≡ rows N count count (view value.now) }
+    ensures value { option_map (λ v. v.items) result ≡ rows N count count (view value.now) }
+    ensures long { IfSome result (λ v. length v.items ≡ count) }
 {
     match value.as_array() {
         Some(array) if array.len() == count => rows_in(array.as_slice()),
@@ -241,7 +246,7 @@ fn rows_of<const N: usize, const CAP: usize>(
     }
 }
 
-fn rows_are_within<const N: usize>(bounds: &[(i64, i64)], rows: &[[i64; N]]) -> bool
+fn rows_are_within<const N: usize>(bounds: &[(i64, i64); N], rows: &[[i64; N]]) -> bool
     ensures { result ≡ list_all (Keys.are_within bounds.now) rows.now }
 {
     rows.iter().all(
@@ -262,10 +267,11 @@ pub(crate) fn rows_at<const N: usize, const CAP: usize>(
 ) -> Result<ArrayVec<[i64; N], CAP>, PlantFault>
     requires key { length section.now + length name.now < 48 }
     requires room { count ≤ CAP }
-    ensures {
+    ensures exact {
         Gives (λ v. v.items) result
             (Keys.rows_at (in_section section.now holder.entry) name.now count bounds.now)
     }
+    ensures long { IfOk result (λ v. length v.items ≡ count) }
 {
     let value = match field(holder, name) {
         Some(value) => value,

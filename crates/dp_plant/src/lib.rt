@@ -19,6 +19,7 @@
 mod built_in;
 mod cert;
 mod fault;
+mod file;
 mod frames;
 mod gains;
 mod keys;
@@ -36,6 +37,7 @@ mod yaw;
 pub use built_in::p0;
 pub use cert::{Cert, Key, Lists, Parts};
 pub use fault::PlantFault;
+pub use file::plant_of;
 pub use frames::{Frame, Gust, Slot, Wire};
 pub use gains::{Gains, YawGains};
 pub use limits::{Box3, Setpoint};

@@ -1,9 +1,12 @@
-ghost use Rattle.std.specs.Prelude.{length, ◌≡◌, ◌≤◌};
+ghost use Rattle.std.specs.Prelude.{IfOk, length, ◌≡◌, ◌≤◌};
 ghost use Rattle.dp_plant.specs.Keys.{AreBetween, Gives, seen};
 ghost use Rattle.dp_plant.specs.PlantFile as File;
+ghost use Rattle.dp_plant.specs.Vectors.{entry};
 
+use crate::file::units::{nanodegrees, nanometres};
 use crate::keys::{count_at, field, rows_at, wholes_at};
 use crate::{Place, PlantFault, Setpoint, WindTable};
+use arrayvec::ArrayVec;
 use toml::Value;
 
 /// Latitude and longitude in 10^-7 minutes: 89 and 180 degrees.
@@ -22,6 +25,7 @@ const FORCE: (i64, i64) = (0, 1_099_511_627_776);
 const PUSH: (i64, i64) = (-16_777_216, 16_777_216);
 
 /// What `[plant]` says of the vessel.
+#[derive(Clone, Copy)]
 pub(crate) struct Vessel {
     pub(crate) version: u8,
     pub(crate) cycle_ms: u64,
@@ -35,7 +39,8 @@ pub(crate) struct Vessel {
 
 #[tactic(auto, unfolding(crate::specs::PlantFile::vessel_at))]
 pub(crate) fn vessel_of(document: Option<&Value>) -> Result<Vessel, PlantFault>
-    ensures { Gives File.vessel_view result (File.vessel_at (seen document.entry)) }
+    ensures exact { Gives (λ v. v) result (File.vessel_at (seen document.entry)) }
+    ensures groups { IfOk result (λ v. (1 ≤ v.groups) × (v.groups ≤ 8)) }
 {
     let plant = field(document, "plant");
     let version = count_at(plant, "plant", "version", 1, 2)? as u8;
@@ -56,4 +61,39 @@ pub(crate) fn vessel_of(document: Option<&Value>) -> Result<Vessel, PlantFault>
         mass,
         tol,
     })
+}
+
+fn setpoint_of(numbers: &[i64; 3]) -> Setpoint
+    requires { AreBetween File.spot (entry numbers.now) }
+    ensures { result ≡ File.setpoint_of numbers.now }
+{
+    Setpoint {
+        at: Place {
+            north: nanometres(numbers[0]),
+            east: nanometres(numbers[1]),
+        },
+        psi: nanodegrees(numbers[2]),
+    }
+}
+
+#[tactic(auto, unfolding(crate::specs::PlantFile::wind_at))]
+pub(crate) fn wind_of(document: Option<&Value>) -> Result<WindTable, PlantFault>
+    ensures { Gives (λ w. w) result (File.wind_at (seen document.entry)) }
+{
+    let wind = field(document, "wind");
+    let rows: ArrayVec<[i64; 3], 12> = rows_at(wind, "wind", "push", 12, &[PUSH; 3])?;
+    Ok(WindTable {
+        push: all_twelve(rows.as_slice()),
+    })
+}
+
+fn all_twelve(rows: &[[i64; 3]]) -> [[i64; 3]; 12]
+    requires { length rows.now ≡ 12 }
+    ensures { result ≡ rows.now }
+{
+    let mut all = [[0; 3]; 12];
+    for (i, row) in rows.iter().enumerate() {
+        all[i] = *row;
+    }
+    all
 }
