@@ -9,7 +9,7 @@ use Rattle.dp_plant.specs.Vectors.{entry}
 le_from : (a b : ℤ) → int_le a b ≡ true → a ≤ℤ b
 le_from a b h = grind (arith, ints)
 
-both_from : (low high z : ℤ) → (int_le low z && int_le z high) ≡ true → (low ≤ℤ z) × (z ≤ℤ high)
+pub both_from : (low high z : ℤ) → (int_le low z && int_le z high) ≡ true → (low ≤ℤ z) × (z ≤ℤ high)
 both_from low high z h = let p = and_parts (int_le low z) (int_le z high) h in (le_from low z p.0, le_from z high p.1)
 
 pub between : (bs : List (ℤ × ℤ)) (zs : List ℤ) → length zs ≡ length bs → are_within bs zs ≡ true → AreBetween bs (entry zs)
