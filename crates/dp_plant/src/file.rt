@@ -1,9 +1,10 @@
-ghost use Rattle.std.specs.Prelude.{IsErrAnd, IsSome, IsUtf8, Ok, Some, ◌≡◌};
+ghost use Rattle.std.specs.Prelude.{IfOk, IsErrAnd, IsSome, IsUtf8, Ok, Some, ◌≡◌};
 ghost use Rattle.toml.specs.Data.{Members, table};
 ghost use Rattle.toml.specs.Parse.{parse_document};
 ghost use Rattle.toml.specs.View.{view};
 ghost use Rattle.dp_plant.specs.Keys.{Gives, IsNoDocument, seen};
 ghost use Rattle.dp_plant.specs.PlantFile.{plant_at, plant_view};
+ghost use Rattle.dp_plant.specs.SoundPlant.{IsPlantWithin};
 
 mod cases;
 mod certificate;
@@ -33,6 +34,8 @@ pub fn plant_of(alloc: Global, bytes: &[u8]) -> Result<Plant, PlantFault>
     ensures no_document {
         ¬ (IsUtf8 bytes.now × IsSome (parse_document bytes.now)) → IsErrAnd result IsNoDocument
     }
+    // Each number but those of the gains is in its range.
+    ensures within { IfOk result IsPlantWithin }
 {
     let document = document_of(alloc, bytes)?;
     plant_in(Some(&document))
