@@ -1,5 +1,10 @@
 -- The built-in plant, field by field: a sample vessel, but for its thrusters and its case.
-use Rattle.std.specs.Prelude.{◌^◌, List, [], ◌∷◌, ℤ, pos, neg_ℤ}
+use Rattle.std.specs.Prelude.{◌≡◌, ◌<◌, ℕ, zero, suc, refl, ◌^◌, List, [], ◌∷◌, replicate, ℤ, pos, neg_ℤ}
+use Rattle.std.proofs.Common.{arith}
+use Rattle.dp_form.specs.Form.{IsSymmetric}
+use Rattle.dp_form.specs.declared.Squares.{Squares}
+use Rattle.dp_plant.specs.declared.cert.Cert.{Cert}
+use Rattle.dp_plant.specs.declared.cert.Parts.TheVariants.{Three}
 use Rattle.dp_plant.specs.declared.gains.Gains.{Gains}
 use Rattle.dp_plant.specs.declared.gains.YawGains.{YawGains}
 use Rattle.dp_plant.specs.declared.limits.Box3.{Box3}
@@ -89,6 +94,48 @@ built_in_yaw_gains = record {
   bias = pos 20000000;
 }
 
+abbrev pub no_form : List (List ℤ)
+no_form = three (pos 0) (pos 0) (pos 0) ∷ three (pos 0) (pos 0) (pos 0) ∷ three (pos 0) (pos 0) (pos 0) ∷ []
+
+pub no_form_symmetric : IsSymmetric 3 no_form
+no_form_symmetric zero zero li lj = refl
+no_form_symmetric zero (suc zero) li lj = refl
+no_form_symmetric zero (suc (suc zero)) li lj = refl
+no_form_symmetric (suc zero) zero li lj = refl
+no_form_symmetric (suc zero) (suc zero) li lj = refl
+no_form_symmetric (suc zero) (suc (suc zero)) li lj = refl
+no_form_symmetric (suc (suc zero)) zero li lj = refl
+no_form_symmetric (suc (suc zero)) (suc zero) li lj = refl
+no_form_symmetric (suc (suc zero)) (suc (suc zero)) li lj = refl
+no_form_symmetric zero (suc (suc (suc j))) li lj = absurd (omega arith)
+no_form_symmetric (suc zero) (suc (suc (suc j))) li lj = absurd (omega arith)
+no_form_symmetric (suc (suc zero)) (suc (suc (suc j))) li lj = absurd (omega arith)
+no_form_symmetric (suc (suc (suc i))) j li lj = absurd (omega arith)
+
+abbrev pub no_squares : Squares 3
+no_squares = record { list = record { items = [] } }
+
+-- it has no certificate: zeros and empty lists
+abbrev pub cert_with : IsSymmetric 3 no_form → Cert
+cert_with symmetric = record {
+  rho = pos 0;
+  b = pos 0;
+  r = pos 0;
+  g = pos 0 ∷ pos 0 ∷ [];
+  parts = Three (record {
+    p = record { at = no_form };
+    span = three (pos 0) (pos 0) (pos 0);
+    form = no_squares;
+    vertex = replicate 2 (replicate 3 no_squares);
+    output = replicate 2 (replicate 2 no_squares);
+    spans = replicate 3 no_squares;
+    symmetric = symmetric;
+  });
+}
+
+abbrev pub built_in_cert : Cert
+built_in_cert = cert_with no_form_symmetric
+
 -- at the origin of the local frame, heading north
 abbrev pub origin_heading_north : Setpoint
 origin_heading_north = record { at = zero_place; psi = pos 0 }
@@ -110,4 +157,5 @@ built_in_plant = record {
   cases = record { items = built_in_case ∷ [] };
   gains = built_in_gains;
   yaw = built_in_yaw_gains;
+  cert = built_in_cert;
 }

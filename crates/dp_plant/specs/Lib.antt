@@ -8,3 +8,5 @@ pub mod YawRanges
 pub mod FrameRanges
 pub mod BuiltInPlant
 pub mod SoundPlant
+pub mod Keys
+pub mod PlantFile

@@ -1,4 +1,4 @@
--- A plant that can be run: each of its numbers is in the range that a plant file allows.
+-- The ranges of a plant's numbers: what a plant file guarantees, and what a plant that can be run has besides.
 use Rattle.std.specs.Prelude.{◌≡◌, ◌<◌, ◌≤◌, ◌^◌, length, List, All, ℕ, ℤ, pos, ◌≤ℤ◌, unsigned_abs}
 use Rattle.dp_plant.specs.declared.limits.Setpoint.{Setpoint}
 use Rattle.dp_plant.specs.declared.plant.Plant.{Plant}
@@ -54,7 +54,8 @@ pub record IsCaseWithin (thrusters : ℕ) (c : RawCase) : Type 0 where
   pub rows : length c.b.items ≡ thrusters
   pub shares : All (λ row. (axis : ℕ) → unsigned_abs (entry row axis) ≤ 2 ^ 31) c.b.items
 
-pub record IsSoundPlant (p : Plant) : Type 0 where
+-- each number is in the range that a plant file allows, but for those of the gains, which are judged with the certificate
+pub record IsPlantWithin (p : Plant) : Type 0 where
   pub cycle_low : 100 ≤ p.cycle_ms
   pub cycle_high : p.cycle_ms ≤ 10000
   pub origin : IsOriginWithin p.origin
@@ -68,6 +69,10 @@ pub record IsSoundPlant (p : Plant) : Type 0 where
   pub thrusters : All IsThrusterWithin p.thrusters.items
   pub few_thrusters : length p.thrusters.items ≤ 12
   pub cases : All (IsCaseWithin (length p.thrusters.items)) p.cases.items
+
+-- the plant can be run: its gains are in range too
+pub record IsSoundPlant (p : Plant) : Type 0 where
+  pub within : IsPlantWithin p
   pub observer : IsObserverGains p.gains
   pub law : IsLawGains p.gains
   pub yaw : IsYawGains p.yaw

@@ -1,19 +1,23 @@
-ghost use Rattle.std.specs.Prelude.{◌≡◌};
+ghost use Rattle.std.specs.Prelude.{replicate, ◌≡◌};
 ghost use Rattle.dp_plant.specs.BuiltInPlant.{
   built_in_case,
+  built_in_cert,
   built_in_gains,
   built_in_plant,
   built_in_push,
   built_in_reference,
   built_in_thrusters,
   built_in_yaw_gains,
+  no_squares,
   thruster_between,
 };
 
 use crate::{
-    Box3, Gains, Place, Plant, RawCase, RefLimits, Setpoint, Thruster, WindTable, YawGains,
+    Box3, Cert, Gains, Lists, Parts, Place, Plant, RawCase, RefLimits, Setpoint, Thruster, WindTable,
+    YawGains,
 };
 use arrayvec::ArrayVec;
+use dp_form::{Squares, Sym};
 
 const BOUNDS: Box3 = Box3 {
     lo: [-50_000_000, -30_000_000, -60_000_000],
@@ -125,6 +129,59 @@ fn yaw_gains() -> YawGains
     }
 }
 
+fn squares() -> Squares<3>
+    ensures { result ≡ no_squares }
+{
+    Squares {
+        list: ArrayVec::new(),
+    }
+}
+
+fn three_lists() -> [Squares<3>; 3]
+    ensures { result ≡ replicate 3 no_squares }
+{
+    [squares(), squares(), squares()]
+}
+
+fn two_lists() -> [Squares<3>; 2]
+    ensures { result ≡ replicate 2 no_squares }
+{
+    [squares(), squares()]
+}
+
+fn vertices() -> [[Squares<3>; 3]; 2]
+    ensures { result ≡ replicate 2 (replicate 3 no_squares) }
+{
+    [three_lists(), three_lists()]
+}
+
+fn outputs() -> [[Squares<3>; 2]; 2]
+    ensures { result ≡ replicate 2 (replicate 2 no_squares) }
+{
+    [two_lists(), two_lists()]
+}
+
+#[tactic(auto, using(crate::specs::BuiltInPlant::no_form_symmetric))]
+fn cert() -> Cert
+    ensures { result ≡ built_in_cert }
+{
+    let lists = Lists {
+        p: Sym { at: [[0; 3]; 3] },
+        span: [0; 3],
+        form: squares(),
+        vertex: vertices(),
+        output: outputs(),
+        spans: three_lists(),
+    };
+    Cert {
+        rho: 0,
+        b: 0,
+        r: 0,
+        g: [0; 2],
+        parts: Parts::Three(lists),
+    }
+}
+
 /// The built-in plant: a vessel with one case and three thrusters, whose forces are the demands of surge, sway and yaw themselves,
 /// within the bounds of the case. It starts at the origin, heading north, and is kept there.
 #[tactic(auto, unfolding(crate::specs::BuiltInPlant::built_in_plant))]
@@ -153,5 +210,6 @@ pub fn p0() -> Plant
         cases,
         gains: gains(),
         yaw: yaw_gains(),
+        cert: cert(),
     }
 }

@@ -18,8 +18,11 @@
 
 mod built_in;
 mod cert;
+mod fault;
+mod file;
 mod frames;
 mod gains;
+mod keys;
 mod limits;
 mod lists;
 mod place;
@@ -33,6 +36,8 @@ mod yaw;
 
 pub use built_in::p0;
 pub use cert::{Cert, Key, Lists, Parts};
+pub use fault::PlantFault;
+pub use file::plant_of;
 pub use frames::{Frame, Gust, Slot, Wire};
 pub use gains::{Gains, YawGains};
 pub use limits::{Box3, Setpoint};
@@ -48,3 +53,6 @@ pub use yaw::YawState;
 /// Memory was wanted and not found.
 #[derive(Clone, Copy, Debug, PartialEq, Eq)]
 pub struct Memory;
+
+#[cfg(test)]
+mod tests;

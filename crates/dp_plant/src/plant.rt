@@ -1,7 +1,7 @@
 ghost use Rattle.std.specs.Prelude.{◌≡◌};
 
 use crate::lists::copied;
-use crate::{Gains, P2, RawCase, RefLimits, Setpoint, Thruster, WindTable, YawGains};
+use crate::{Cert, Gains, P2, RawCase, RefLimits, Setpoint, Thruster, WindTable, YawGains};
 use arrayvec::ArrayVec;
 
 /// A vessel, its references and thrusters, and how it is to be controlled.
@@ -28,6 +28,7 @@ pub struct Plant {
     pub cases: ArrayVec<RawCase, 32>,
     pub gains: Gains,
     pub yaw: YawGains,
+    pub cert: Cert,
 }
 
 fn copied_cases(cases: &ArrayVec<RawCase, 32>) -> ArrayVec<RawCase, 32>
@@ -61,6 +62,7 @@ impl Plant {
             cases: copied_cases(&self.cases),
             gains: self.gains,
             yaw: self.yaw,
+            cert: self.cert.copy(),
         }
     }
 }
