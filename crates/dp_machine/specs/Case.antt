@@ -1,5 +1,5 @@
 -- What the thrusters give while a set of groups is lost.
-use Rattle.std.specs.Prelude.{ℕ, ◌^◌, ◌==◌, List, [], ◌∷◌, map, find, Option, Some, None, ℤ, pos, ◌+ℤ◌, ◌*ℤ◌}
+use Rattle.std.specs.Prelude.{ℕ, ◌≤◌, ◌^◌, ◌==◌, List, [], ◌∷◌, map, find, Option, Some, None, ℤ, pos, ◌+ℤ◌, ◌*ℤ◌, unsigned_abs}
 use Rattle.dp_fixed.specs.Division.{floor_of}
 use Rattle.dp_plant.specs.declared.limits.Box3.{Box3}
 use Rattle.dp_plant.specs.declared.plant.Plant.{Plant}
@@ -22,6 +22,10 @@ zero_box = record { lo = three_zeros; hi = three_zeros }
 abbrev pub box_of : Option RawCase → Box3
 box_of None = zero_box
 box_of (Some c) = c.bounds
+
+-- a row of a case: each share within 2^31 of zero
+abbrev pub AreShares : List ℤ → Type 0
+AreShares row = (axis : ℕ) → unsigned_abs (entry row axis) ≤ 2 ^ 31
 
 -- the force of a thruster, by its row of shares over 2^20
 abbrev pub thrust_of : List ℤ → List ℤ → ℤ

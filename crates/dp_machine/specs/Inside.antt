@@ -2,11 +2,17 @@
 use Rattle.dp_plant.specs.SoundPlant.{IsSoundPlant}
 use Rattle.dp_machine.specs.declared.machine.Machine.TheInside.{Inside}
 use Rattle.dp_machine.specs.Machine.{MachineValue}
-use Rattle.dp_machine.specs.Ranges.{IsStateWithin}
+use Rattle.dp_machine.specs.Parts.{AreDemands, AreEstimates, AreReferences, state_by}
 
 abbrev pub value_of : Inside → MachineValue
-value_of m = record { plant = m.plant; state = m.state; steps = m.steps }
+value_of m = record {
+  plant = m.plant;
+  state = state_by m.now m.references m.demands.items;
+  steps = m.steps;
+}
 
 pub record IsMachine (m : Inside) : Type 0 where
   pub sound : IsSoundPlant m.plant
-  pub within : IsStateWithin m.plant m.state
+  pub now : AreEstimates m.plant m.now
+  pub references : AreReferences m.plant m.now.count m.references
+  pub demands : AreDemands m.now.count m.demands

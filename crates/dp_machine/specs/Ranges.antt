@@ -5,7 +5,7 @@ use Rattle.dp_plant.specs.declared.yaw.YawState.{YawState}
 use Rattle.dp_plant.specs.Ranges.{IsPlaneWithin}
 use Rattle.dp_plant.specs.Vectors.{entry}
 use Rattle.dp_plant.specs.Yaw.{turn}
-use Rattle.dp_machine.specs.Window.{IsKept}
+use Rattle.dp_reftest.specs.Window.{IsKept}
 use Rattle.dp_machine.specs.declared.state.State.{State}
 use Rattle.dp_machine.specs.Step.{kept_at, limits_at}
 

@@ -1,4 +1,4 @@
-//! One computer's machine.
+//! One computer's machine: its plant and its state.
 ghost use Rattle.std.specs.Prelude.{◌≡◌, ◌∷◌, [], ◌^◌, IfOk, OnErr, Some, None};
 ghost use Rattle.dp_plant.specs.FrameRanges.{IsFrameWithin};
 ghost use Rattle.dp_plant.specs.Ranges.{IsVectorWithin};
@@ -7,17 +7,28 @@ ghost use Rattle.dp_machine.specs.Machine.{first_machine, one_more, with_rest, w
 ghost use Rattle.dp_machine.specs.Ranges.{IsStateWithin};
 ghost use Rattle.dp_machine.specs.Step.{limits_at, step_at, step_of};
 
+use crate::cycle::Cycle;
+use crate::demands;
+use crate::estimates::Estimates;
+use crate::forces::forces_of;
+use crate::references::References;
+use crate::sensed::Sensed;
 use crate::{Issue, State};
+use circular_buffer::HeapCircularBuffer;
 use dp_observer::Diverged;
-use dp_plant::{Frame, Memory, Place, Plant, Setpoint};
+use dp_plant::{Frame, Memory, Place, PlaneState, Plant, Setpoint};
+use dp_trig::Trig;
 use std::alloc::Global;
 use std::marker::Model;
 
-/// One computer's plant and state.
+/// One computer's plant and state, seen as the record `MachineValue`: the plant, the state, and how often it was stepped.
 #[derive(Drop)]
 pub struct Machine {
     plant: Plant,
-    state: State,
+    trig: Trig,
+    now: Estimates,
+    references: References,
+    demands: HeapCircularBuffer<[i64; 3]>,
     steps: u64,
 }
 
@@ -34,22 +45,30 @@ impl Model for Machine {
 }
 
 impl Machine {
-    /// A machine with the plant's first state.
+    /// A machine with the plant's first state: at rest at its start, no samples, no demands, no group lost. No later call takes memory.
     pub fn new(alloc: Global, plant: &Plant) -> Result<Machine, Memory>
         requires { IsSoundPlant plant.now }
         ensures { IfOk result (λ m. m ≡ first_machine plant.now) }
     {
-        Err(Memory)
+        Ok(Machine {
+            plant: plant.copy(),
+            trig: Trig::new(),
+            now: Estimates::first(plant),
+            references: References::new(alloc, &plant.refs)?,
+            demands: demands::ring(alloc)?,
+            steps: 0,
+        })
     }
 
     /// The number of frames processed.
     pub fn count(&self) -> u64
         ensures { result ≡ self.now.state.count }
     {
-        self.state.count
+        self.now.count
     }
 
-    /// Takes one cycle at the plant's own setpoint.
+    /// Takes one cycle at the plant's own setpoint: the frame of the next cycle. What is issued rests on the estimates before it, and on
+    /// this frame's heading, wind and places. After `Diverged` nothing is promised of the state but what `set` asks for.
     pub fn step(&mut self, f: &Frame) -> Result<Issue, Diverged>
         requires within { IsFrameWithin f.now }
         requires next { f.now.cycle ≡ self.old.state.count }
@@ -74,28 +93,60 @@ impl Machine {
         ensures plant { self.new.plant ≡ self.old.plant }
         ensures steps { self.new.steps ≡ one_more self.old.steps }
     {
-        Err(Diverged)
+        let sensed = Sensed::of(f, self.now.heading, self.now.wind);
+        let pair = self.trig.pair(sensed.heading.unwrap_or(self.now.heading));
+        self.references.take(self.now.count, &f.pos);
+        let cycle = Cycle::of(&self.plant, at, &self.now, sensed, pair, &self.references);
+        let demand = cycle.demand;
+        let issue = Issue {
+            cycle: self.now.count,
+            forces: forces_of(&self.plant, self.now.lost, demand),
+            demand,
+        };
+        demands::add(&mut self.demands, demand);
+        self.steps = self.steps.saturating_add(1);
+        let Some(next) = cycle.next else {
+            self.now.count += 1;
+            return Err(Diverged);
+        };
+        self.now = next;
+        Ok(issue)
     }
 
-    /// Takes the vessel to be at rest at a place.
+    /// Takes the vessel to be at rest at a place within ±2^43 nm, with no bias and no motion by waves. All else stays.
     pub fn skew(&mut self, at: Place)
         requires { IsVectorWithin (2 ^ 43) at }
         ensures { self.new ≡ with_rest self.old at }
-    {}
+    {
+        self.now.plane = PlaneState::rest(at);
+    }
 
-    /// The machine's state, which lies within the ranges of the plant's states.
+    /// The machine's state; it lies within the ranges of this plant's states.
     pub fn state(&self) -> State
         ensures value { result ≡ self.now.state }
         ensures within { IsStateWithin self.now.plant result }
     {
-        self.state()
+        State {
+            count: self.now.count,
+            plane: self.now.plane,
+            yaw: self.now.yaw,
+            heading: self.now.heading,
+            wind: self.now.wind,
+            lost: self.now.lost,
+            samples: self.references.kept(),
+            demands: demands::list(&self.demands),
+        }
     }
 
-    /// Gives the machine a state.
+    /// Gives the machine a state that lies within the ranges of this plant's states.
     pub fn set(&mut self, s: &State)
         requires { IsStateWithin self.old.plant s.now }
         ensures { self.new ≡ with_state self.old s.now }
-    {}
+    {
+        self.now = Estimates::of(s);
+        self.references.set(s.count, &s.samples);
+        demands::fill(&mut self.demands, s.demands.as_slice());
+    }
 
     /// The lengths of the references' windows.
     pub fn windows(&self) -> [u8; 3]
@@ -113,7 +164,7 @@ impl Machine {
         self.plant.groups
     }
 
-    /// The number of frames that this machine was stepped over since it was made.
+    /// The number of frames that this machine was stepped over since it was made, up to 2^64 - 1, one that diverged included.
     pub fn steps(&self) -> u64
         ensures { result ≡ self.now.steps }
     {

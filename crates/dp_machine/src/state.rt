@@ -1,6 +1,6 @@
 use arrayvec::ArrayVec;
 use dp_plant::{PlaneState, YawState};
-use crate::Kept;
+use dp_reftest::Kept;
 
 /// All that a computer keeps from one cycle to the next: how many frames it has processed, its estimates of the plane and of yaw, the
 /// last fused heading and angle of the wind (in hundredths of a degree), the mask of the groups that are lost, the window of each
