@@ -1,17 +1,18 @@
 -- What the tests say of one position reference: the first that holds.
-use Rattle.std.specs.Prelude.{ℕ, ◌-◌, ◌^◌, ◌==◌, max, Bool, false, not, ◌&&◌, ◌||◌, nat_lt, if◌then◌else◌, List, [], ◌∷◌, length, map, ℤ, pos, ◌+ℤ◌, ◌-ℤ◌, ◌*ℤ◌, int_lt, unsigned_abs}
+use Rattle.std.specs.Prelude.{◌≤◌, ℕ, ◌-◌, ◌^◌, ◌==◌, max, Bool, false, not, ◌&&◌, ◌||◌, nat_lt, if◌then◌else◌, List, [], ◌∷◌, length, map, ℤ, pos, ◌+ℤ◌, ◌-ℤ◌, ◌*ℤ◌, int_lt, unsigned_abs}
 use Rattle.dp_fixed.specs.Division.{floor_of}
 use Rattle.dp_plant.specs.declared.place.Place.{Place}
 use Rattle.dp_plant.specs.declared.references.RefLimits.{RefLimits}
 use Rattle.dp_plant.specs.declared.references.Verdict.{Verdict}
 use Rattle.dp_plant.specs.declared.references.Verdict.TheVariants.{Silent, Stale, Frozen, Jumped, Noisy, Usable}
+use Rattle.dp_plant.specs.Ranges.{IsVectorWithin}
 use Rattle.dp_reftest.specs.declared.kept.Kept.{Kept}
 
 abbrev pub distance : ℤ → ℤ → ℤ
 distance a b = pos (unsigned_abs (a -ℤ b))
 
 -- whether the parts of two places differ by more than a limit
-abbrev pub is_jump : ℤ → Place → Place → Bool
+unfoldable pub is_jump : ℤ → Place → Place → Bool
 is_jump limit a b = int_lt limit (distance a.north b.north) || int_lt limit (distance a.east b.east)
 
 -- whether one sample and the next do, anywhere in the window
@@ -64,3 +65,12 @@ verdict_of limits kept now = judged kept.list.items
     judged : List Place → Verdict
     judged [] = Silent
     judged (a ∷ xs) = verdict_on limits (now - kept.last) a xs
+
+-- a verdict that can be fused: if usable, its place is within 2^43 nm of the origin, and its weight from 1 to 2^20
+abbrev pub IsVerdictWithin : Verdict → Type 0
+IsVerdictWithin Silent = Unit {0}
+IsVerdictWithin (Stale age) = Unit {0}
+IsVerdictWithin Frozen = Unit {0}
+IsVerdictWithin Jumped = Unit {0}
+IsVerdictWithin (Noisy variance) = Unit {0}
+IsVerdictWithin (Usable at weight) = IsVectorWithin (2 ^ 43) at × (1 ≤ weight) × (weight ≤ 2 ^ 20)

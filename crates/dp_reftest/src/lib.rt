@@ -21,8 +21,12 @@
 //! frozen, jump or are noisy, each judged by itself.
 #![tactic(auto)]
 
+mod judge;
 mod kept;
+pub mod laws;
+mod reference;
 mod sums;
 
 pub use kept::Kept;
+pub use reference::RefTest;
 pub use sums::Sums;

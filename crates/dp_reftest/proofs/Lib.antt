@@ -1,0 +1,5 @@
+pub mod Adding
+pub mod Spreads
+pub mod Reading
+pub mod Rings
+pub mod Windows
