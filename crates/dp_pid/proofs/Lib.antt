@@ -1,0 +1,2 @@
+pub mod AxisRanges
+pub mod ThreeAnswers
