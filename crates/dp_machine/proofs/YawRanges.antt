@@ -1,5 +1,5 @@
 -- Yaw stays in its ranges: what leaks and damps in a cycle is more than what the push, the bias and a heading that is off can add.
-use Rattle.std.proofs.Common.{◌≡◌, ◌<◌, ◌≤◌, ◌^◌, ℕ, ◌*◌, List, [], ◌∷◌, Option, Some, None, IfSome, arith, ℤ, pos, negsuc, neg_ℤ, ◌+ℤ◌, ◌-ℤ◌, ◌*ℤ◌, ◌≤ℤ◌, ◌<ℤ◌, unsigned_abs}
+use Rattle.std.proofs.Common.{◌≡◌, ◌<◌, ◌≤◌, ◌^◌, ℕ, ◌*◌, List, [], ◌∷◌, Option, Some, None, IfSome, arith, ap, subst, sym, ◌∙◌, ℤ, pos, negsuc, neg_ℤ, ◌+ℤ◌, ◌-ℤ◌, ◌*ℤ◌, ◌≤ℤ◌, ◌<ℤ◌, unsigned_abs}
 use Rattle.std.proofs.lemmas.Int.{ints}
 use Rattle.std.specs.Int.{int_rem_euclid}
 use Rattle.dp_fixed.specs.Division.{floor_of}
@@ -88,3 +88,14 @@ wide x range =
     let beta = range.beta in
     let rate = range.rate in
     record { psi = omega (arith, ints); beta = omega (arith, ints); rate = omega (arith, ints) }
+
+-- ---- what the observer answers, where the push is known by another name
+pub same_next : (g : YawGains) (x : YawState) (h : Option ℕ) (push sum : ℤ) (next : YawState) → push ≡ sum → next ≡ yaw_next g x h push
+    → IsYawWithin (yaw_next g x h push) → IsYawWithin (yaw_next g x h sum) × (next ≡ yaw_next g x h sum)
+same_next g x h push sum next e is w =
+    (subst (λ (d : ℤ). IsYawWithin (yaw_next g x h d)) e w, is ∙ ap (λ (d : ℤ). yaw_next g x h d) e)
+
+pub next_stays : (g : YawGains) (x : YawState) (h : Option ℕ) (push sum : ℤ) (next : YawState) → push ≡ sum → next ≡ yaw_next g x h push
+    → IsYawGains g → IsYawInRange x → unsigned_abs sum ≤ 2 ^ 39 → IsYawInRange next
+next_stays g x h push sum next e is gains range s =
+    subst IsYawInRange (sym (is ∙ ap (λ (d : ℤ). yaw_next g x h d) e)) (next_range g x h sum gains range s)

@@ -7,12 +7,12 @@ use Rattle.dp_machine.specs.Parts.{AreDemands, AreEstimates, AreReferences, stat
 abbrev pub value_of : Inside → MachineValue
 value_of m = record {
   plant = m.plant;
-  state = state_by m.now m.references m.demands.items;
+  state = state_by m.estimates m.references m.demands.items;
   steps = m.steps;
 }
 
 pub record IsMachine (m : Inside) : Type 0 where
   pub sound : IsSoundPlant m.plant
-  pub now : AreEstimates m.plant m.now
-  pub references : AreReferences m.plant m.now.count m.references
-  pub demands : AreDemands m.now.count m.demands
+  pub estimates : AreEstimates m.plant m.estimates
+  pub references : AreReferences m.plant m.estimates.count m.references
+  pub demands : AreDemands m.estimates.count m.demands

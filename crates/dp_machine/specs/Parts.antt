@@ -68,6 +68,12 @@ pub record AreReferences (p : Plant) (next : ℕ) (refs : References) : Type 0 w
 abbrev pub taken : Tested → ℕ → Slot Place → Tested
 taken t cycle slot = tested_by t.limits (cycle + 1) (window_next t.limits.window t.kept cycle slot.last)
 
+-- the three tests after a cycle that brought this on the wires
+pub record AreTaken (old new : References) (cycle : ℕ) (pos : List (Slot Place)) : Type 0 where
+  pub first : new.first ≡ taken old.first cycle (slot_of pos 0)
+  pub second : new.second ≡ taken old.second cycle (slot_of pos 1)
+  pub third : new.third ≡ taken old.third cycle (slot_of pos 2)
+
 -- the last demands, one for each cycle up to 60, in a ring of 60
 pub record AreDemands (count : ℕ) (ring : Buffer (List ℤ)) : Type 0 where
   pub capacity : ring.capacity ≡ 60

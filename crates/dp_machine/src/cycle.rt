@@ -175,7 +175,7 @@ fn yaw_after(
     ensures within { IfSome result IsYawInRange }
 {
     let mut next = yaw;
-    match yaw::update(&mut next, &plant.yaw, heading, turning_push(demand[2], wind[2])) {
+    match yaw::update(&mut next, &plant.yaw, heading, turning_push(demand, wind)) {
         Ok(()) => Some(next),
         Err(_) => None,
     }
@@ -201,11 +201,20 @@ fn pushed(demand: i64, wind: i64) -> i64
 }
 
 /// What pushes in yaw.
-fn turning_push(demand: i64, wind: i64) -> i64
+fn turning_push(demand: [i64; 3], wind: [i64; 3]) -> i64
+    requires demand { IsWholeDemand demand }
+    requires wind { IsWindPush wind }
+    ensures value { result ≡ entry demand 2 +ℤ entry wind 2 }
+    ensures within { IsYawPush result }
+{
+    turned(demand[2], wind[2])
+}
+
+fn turned(demand: i64, wind: i64) -> i64
     requires demand { unsigned_abs demand ≤ 2 ^ 38 }
     requires wind { unsigned_abs wind ≤ 2 ^ 31 }
     ensures value { result ≡ demand +ℤ wind }
-    ensures within { IsYawPush result }
+    ensures bound { unsigned_abs result ≤ 2 ^ 39 }
 {
     demand + wind
 }

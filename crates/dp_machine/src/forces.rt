@@ -5,8 +5,9 @@ ghost use Rattle.dp_plant.specs.Ranges.{IsPlaneBox};
 ghost use Rattle.dp_plant.specs.SoundPlant.{IsCaseWithin, IsSoundPlant};
 ghost use Rattle.dp_plant.specs.Vectors.{entry};
 ghost use Rattle.dp_plant.specs.YawRanges.{IsYawBox};
-ghost use Rattle.dp_machine.specs.Case.{AreShares, box_of, case_of, forces_of, thrust_of};
+ghost use Rattle.dp_machine.specs.Case.{AreShares, box_of, case_of, thrust_of};
 ghost use Rattle.dp_machine.specs.Ranges.{IsWholeDemand};
+ghost use Rattle.dp_machine.specs.Step.{forces_by};
 
 use arrayvec::ArrayVec;
 use dp_fixed::{floor_div, narrow, sum};
@@ -41,10 +42,11 @@ pub(crate) fn box_of(plant: &Plant, lost: u8) -> Box3
 }
 
 /// The forces of all thrusters while these groups are lost; without a case each is zero.
+#[tactic(auto, unfolding(crate::specs::Step::forces_by))]
 pub(crate) fn forces_of(plant: &Plant, lost: u8, demand: [i64; 3]) -> ArrayVec<i64, 12>
     requires plant { IsSoundPlant plant.now }
     requires demand { IsWholeDemand demand }
-    ensures { result.items ≡ forces_of plant.now.thrusters.items (case_of plant.now lost) demand }
+    ensures { result.items ≡ forces_by plant.now lost demand }
 {
     match case_of(plant, lost) {
         Some(case) => thrusts(&case.b, demand),

@@ -26,7 +26,7 @@ use std::marker::Model;
 pub struct Machine {
     plant: Plant,
     trig: Trig,
-    now: Estimates,
+    estimates: Estimates,
     references: References,
     demands: HeapCircularBuffer<[i64; 3]>,
     steps: u64,
@@ -53,7 +53,7 @@ impl Machine {
         Ok(Machine {
             plant: plant.copy(),
             trig: Trig::new(),
-            now: Estimates::first(plant),
+            estimates: Estimates::first(plant),
             references: References::new(alloc, &plant.refs)?,
             demands: demands::ring(alloc)?,
             steps: 0,
@@ -64,7 +64,7 @@ impl Machine {
     pub fn count(&self) -> u64
         ensures { result ≡ self.now.state.count }
     {
-        self.now.count
+        self.estimates.count
     }
 
     /// Takes one cycle at the plant's own setpoint: the frame of the next cycle. What is issued rests on the estimates before it, and on
@@ -93,23 +93,23 @@ impl Machine {
         ensures plant { self.new.plant ≡ self.old.plant }
         ensures steps { self.new.steps ≡ one_more self.old.steps }
     {
-        let sensed = Sensed::of(f, self.now.heading, self.now.wind);
-        let pair = self.trig.pair(sensed.heading.unwrap_or(self.now.heading));
-        self.references.take(self.now.count, &f.pos);
-        let cycle = Cycle::of(&self.plant, at, &self.now, sensed, pair, &self.references);
+        let sensed = Sensed::of(f, self.estimates.heading, self.estimates.wind);
+        let pair = self.trig.pair(sensed.heading.unwrap_or(self.estimates.heading));
+        self.references.take(self.estimates.count, &f.pos);
+        let cycle = Cycle::of(&self.plant, at, &self.estimates, sensed, pair, &self.references);
         let demand = cycle.demand;
         let issue = Issue {
-            cycle: self.now.count,
-            forces: forces_of(&self.plant, self.now.lost, demand),
+            cycle: self.estimates.count,
+            forces: forces_of(&self.plant, self.estimates.lost, demand),
             demand,
         };
         demands::add(&mut self.demands, demand);
         self.steps = self.steps.saturating_add(1);
         let Some(next) = cycle.next else {
-            self.now.count += 1;
+            self.estimates.count += 1;
             return Err(Diverged);
         };
-        self.now = next;
+        self.estimates = next;
         Ok(issue)
     }
 
@@ -118,7 +118,7 @@ impl Machine {
         requires { IsVectorWithin (2 ^ 43) at }
         ensures { self.new ≡ with_rest self.old at }
     {
-        self.now.plane = PlaneState::rest(at);
+        self.estimates.plane = PlaneState::rest(at);
     }
 
     /// The machine's state; it lies within the ranges of this plant's states.
@@ -127,12 +127,12 @@ impl Machine {
         ensures within { IsStateWithin self.now.plant result }
     {
         State {
-            count: self.now.count,
-            plane: self.now.plane,
-            yaw: self.now.yaw,
-            heading: self.now.heading,
-            wind: self.now.wind,
-            lost: self.now.lost,
+            count: self.estimates.count,
+            plane: self.estimates.plane,
+            yaw: self.estimates.yaw,
+            heading: self.estimates.heading,
+            wind: self.estimates.wind,
+            lost: self.estimates.lost,
             samples: self.references.kept(),
             demands: demands::list(&self.demands),
         }
@@ -143,7 +143,7 @@ impl Machine {
         requires { IsStateWithin self.old.plant s.now }
         ensures { self.new ≡ with_state self.old s.now }
     {
-        self.now = Estimates::of(s);
+        self.estimates = Estimates::of(s);
         self.references.set(s.count, &s.samples);
         demands::fill(&mut self.demands, s.demands.as_slice());
     }

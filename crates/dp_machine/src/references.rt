@@ -4,9 +4,9 @@ ghost use Rattle.std.specs.List.{AllByRecursion};
 ghost use Rattle.dp_plant.specs.FrameRanges.{IsPlaceSlotWithin};
 ghost use Rattle.dp_plant.specs.SoundPlant.{AreRefLimits};
 ghost use Rattle.dp_reftest.specs.Tested.{tested_by, untested};
-ghost use Rattle.dp_reftest.specs.Window.{IsKept, slot_of};
+ghost use Rattle.dp_reftest.specs.Window.{IsKept};
 ghost use Rattle.dp_fuse.specs.Ranges.{IsVerdictWithin};
-ghost use Rattle.dp_machine.specs.Parts.{taken, verdicts_by};
+ghost use Rattle.dp_machine.specs.Parts.{AreTaken, verdicts_by};
 ghost use Rattle.dp_machine.specs.Step.{kept_at, limits_in};
 
 use dp_plant::{Memory, Place, RefLimits, Slot, Verdict};
@@ -44,9 +44,7 @@ impl References {
         requires third { self.old.third.next ≡ cycle }
         requires cycle { cycle < 2 ^ 20 }
         requires places { AllByRecursion IsPlaceSlotWithin pos.now }
-        ensures first { self.new.first ≡ taken self.old.first cycle (slot_of pos.now 0) }
-        ensures second { self.new.second ≡ taken self.old.second cycle (slot_of pos.now 1) }
-        ensures third { self.new.third ≡ taken self.old.third cycle (slot_of pos.now 2) }
+        ensures { AreTaken self.old self.new cycle pos.now }
     {
         let [first, second, third] = pos;
         self.first.take(cycle, first.last);
@@ -80,6 +78,7 @@ impl References {
         ensures first { self.new.first ≡ tested_by self.old.first.limits next (kept_at kept.now 0) }
         ensures second { self.new.second ≡ tested_by self.old.second.limits next (kept_at kept.now 1) }
         ensures third { self.new.third ≡ tested_by self.old.third.limits next (kept_at kept.now 2) }
+        ensures samples { self.new.first.kept ∷ self.new.second.kept ∷ self.new.third.kept ∷ [] ≡ kept.now }
     {
         let [first, second, third] = kept;
         self.first.set(next, first);
