@@ -47,12 +47,12 @@ before_last a b h k (Some c) = record {
 pub in_hull_of_two : FusedPlaceIsInHullOfTwo
 in_hull_of_two a b h k o p q = record {
   first_two = λ e e'.
-    subst (λ z. IsInHull a.at b.at (fused_by_three z p q)) (sym e)
-    (subst (λ z. IsInHull a.at b.at (fused_by_three (Some a) z q)) (sym e') (before_last a b h k q));
+      subst (λ z. IsInHull a.at b.at (fused_by_three z p q)) (sym e)
+      (subst (λ z. IsInHull a.at b.at (fused_by_three (Some a) z q)) (sym e') (before_last a b h k q));
   last_two = λ e e'.
-    subst (λ z. IsInHull a.at b.at (fused_by_three o z q)) (sym e)
-    (subst (λ z. IsInHull a.at b.at (fused_by_three o (Some a) z)) (sym e') (after_first a b h k o));
+      subst (λ z. IsInHull a.at b.at (fused_by_three o z q)) (sym e)
+      (subst (λ z. IsInHull a.at b.at (fused_by_three o (Some a) z)) (sym e') (after_first a b h k o));
   outer_two = λ e e'.
-    subst (λ z. IsInHull a.at b.at (fused_by_three z p q)) (sym e)
-    (subst (λ z. IsInHull a.at b.at (fused_by_three (Some a) p z)) (sym e') (beside_second a b h k p));
+      subst (λ z. IsInHull a.at b.at (fused_by_three z p q)) (sym e)
+      (subst (λ z. IsInHull a.at b.at (fused_by_three (Some a) p z)) (sym e') (beside_second a b h k p));
 }

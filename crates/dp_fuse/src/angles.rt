@@ -21,12 +21,7 @@ pub fn heading(h: [Option<u32>; 3], base: u32) -> Option<u32>
 }
 
 /// One angle of those that are there.
-pub(crate) fn fused_angle(
-    base: u32,
-    a: Option<u32>,
-    b: Option<u32>,
-    c: Option<u32>,
-) -> Option<u32>
+pub(crate) fn fused_angle(base: u32, a: Option<u32>, b: Option<u32>, c: Option<u32>) -> Option<u32>
     requires base { base < 36000 }
     requires first { IfSome a (λ a. a < 36000) }
     requires second { IfSome b (λ a. a < 36000) }

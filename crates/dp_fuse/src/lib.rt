@@ -19,3 +19,5 @@ pub use angles::heading;
 pub use gusts::wind;
 pub use places::{Fused, position};
 
+#[cfg(test)]
+mod tests;
