@@ -3,3 +3,4 @@ pub mod Spreads
 pub mod Reading
 pub mod Rings
 pub mod Windows
+pub mod Testing

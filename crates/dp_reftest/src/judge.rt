@@ -76,8 +76,7 @@ impl Sums {
         requires some { 0 < self.now.n }
         requires few { self.now.n ≤ 32 }
         requires sums { AreSums self.now }
-        ensures value { result ≡ variance_by self.now }
-        ensures low { pos 0 ≤ℤ result }
+        ensures { result ≡ variance_by self.now }
     {
         floor_div(self.spread(), cells(self.n))
     }
@@ -86,8 +85,7 @@ impl Sums {
     fn spread(&self) -> i128
         requires few { self.now.n ≤ 32 }
         requires sums { AreSums self.now }
-        ensures value { result ≡ spread_by self.now }
-        ensures low { pos 0 ≤ℤ result }
+        ensures { result ≡ spread_by self.now }
     {
         less_square(
             less_square(times(self.n, self.square), self.x),

@@ -66,12 +66,12 @@ impl RefTest {
         requires near { IfSome reading (IsVectorWithin (2 ^ 43)) }
         ensures { self.new ≡ tested_by self.old.limits (cycle + 1) (window_next self.old.limits.window self.old.kept cycle reading) }
     {
-        if let Some(at) = reading {
-            make_room(&mut self.ring, &mut self.sums, self.limits.jump);
-            enter(&mut self.ring, &mut self.sums, at, self.limits.jump);
-            self.last = cycle;
-        }
         self.next = cycle + 1;
+        let Some(at) = reading else {
+            return;
+        };
+        push(&mut self.ring, &mut self.sums, at, self.limits.jump);
+        self.last = cycle;
     }
 
     /// The verdict as of the last cycle taken; Silent before the first.
@@ -140,6 +140,18 @@ fn places_of(ring: &HeapCircularBuffer<Place>) -> ArrayVec<Place, 32>
     let _fits = list.try_extend_from_slice(first);
     let _fits = list.try_extend_from_slice(second);
     list
+}
+
+/// A sample comes in, and the oldest falls out where the ring is full.
+fn push(ring: &mut HeapCircularBuffer<Place>, sums: &mut Sums, at: Place, limit: i64)
+    requires running { IsRunning limit ring.old sums.old }
+    requires some { 0 < ring.old.capacity }
+    requires near { IsVectorWithin (2 ^ 43) at }
+    ensures items { ring.new ≡ buffer (keep_last ring.old.capacity (ring.old.items ++ at ∷ [])) ring.old.capacity }
+    ensures running { IsRunning limit ring.new sums.new }
+{
+    make_room(ring, sums, limit);
+    enter(ring, sums, at, limit);
 }
 
 /// The oldest sample falls out.

@@ -137,7 +137,8 @@ fn is_still(a: &Place, b: &Place) -> bool
 fn jumps_in(p: Option<Place>, q: Option<Place>, limit: i64) -> u8
     requires p { IfSome p (IsVectorWithin (2 ^ 43)) }
     requires q { IfSome q (IsVectorWithin (2 ^ 43)) }
-    ensures { result ≡ pair (is_jump limit) p q }
+    ensures value { result ≡ pair (is_jump limit) p q }
+    ensures one { result ≤ 1 }
 {
     match (p, q) {
         (Some(p), Some(q)) => u8::from(is_step(&p, &q, limit)),
@@ -149,7 +150,8 @@ fn jumps_in(p: Option<Place>, q: Option<Place>, limit: i64) -> u8
 fn same_in(p: Option<Place>, q: Option<Place>) -> u8
     requires p { IfSome p (IsVectorWithin (2 ^ 43)) }
     requires q { IfSome q (IsVectorWithin (2 ^ 43)) }
-    ensures { result ≡ pair is_same p q }
+    ensures value { result ≡ pair is_same p q }
+    ensures one { result ≤ 1 }
 {
     match (p, q) {
         (Some(p), Some(q)) => u8::from(is_still(&p, &q)),

@@ -25,5 +25,5 @@ returns-clause-running c =
     let more : c.add.new.self ≡ with_more c.args.limit (last_item a.items) c.args.at c.args.sums.now =
     same_sums c.add.new.self (with_more c.args.limit (last_item a.items) c.args.at c.args.sums.now) c.add.ensures.n c.add.ensures.x c.add.ensures.y c.add.ensures.square
     (rw (← before, ← j) c.add.ensures.jumps) (rw (← before) c.add.ensures.same) in
-    let items = c.push_back.ensures.items ∙ ap (λ (ps : List Place). buffer ps a.capacity) (keep_all a.capacity (a.items ++ c.args.at ∷ []) (omega (arith, length-append a.items (c.args.at ∷ []), c.requires.room))) in
-    entered c.args.limit a c.args.sums.now c.requires.running c.push_back.new.self c.add.new.self c.args.at c.requires.near c.requires.room items more
+    let items = c.push_back-oldest.ensures.items ∙ ap (λ (ps : List Place). buffer ps a.capacity) (keep_all a.capacity (a.items ++ c.args.at ∷ []) (omega (arith, length-append a.items (c.args.at ∷ []), c.requires.room))) in
+    entered c.args.limit a c.args.sums.now c.requires.running c.push_back-oldest.new.self c.add.new.self c.args.at c.requires.near c.requires.room items more
