@@ -49,5 +49,3 @@ is_yaw_axis g box gains limits = record {
   low = not_below _ _ limits.low;
   high = not_above _ _ limits.high;
 }
-
-pub ruleset axes = (is_plane_axis, is_yaw_axis)

@@ -96,7 +96,6 @@ fn asked(axis: Axis, limit: i128, wind: i128, along: Along) -> i128
 }
 
 /// What is asked of surge or sway, over the square of the scale.
-#[tactic(auto, unfolding(dp_plant::specs::Law::asked_of))]
 fn asked_on_plane(axis: Axis, along: Along, wind: i64) -> i128
     requires axis { IsAxis (pos (2 ^ 31)) axis }
     requires along { IsAlongWithin along }
@@ -107,7 +106,6 @@ fn asked_on_plane(axis: Axis, along: Along, wind: i64) -> i128
 }
 
 /// What is asked of yaw, over the scale.
-#[tactic(auto, unfolding(dp_plant::specs::Yaw::asked_turn_of))]
 fn asked_in_yaw(axis: Axis, along: Along, wind: i64) -> i128
     requires axis { IsAxis (pos (2 ^ 38)) axis }
     requires along { IsAlongWithin along }
@@ -124,7 +122,7 @@ struct Clamped {
     limited: bool,
 }
 
-fn clamped(asked: i128, lo: i128, hi: i128) -> Clamped
+fn put_in_range(asked: i128, lo: i128, hi: i128) -> Clamped
     requires { lo ≤ℤ hi }
     ensures value { result.value ≡ clamp_of asked lo hi }
     ensures limited { result.limited ≡ is_limited asked lo hi }
@@ -161,12 +159,11 @@ fn divided(z: i128, axis: Axis) -> i64
 }
 
 /// The answer of surge or sway.
-#[tactic(auto, unfolding(dp_plant::specs::Law::issued_of))]
 fn answered_on_plane(asked: i128, axis: Axis) -> Answer
     requires axis { IsAxis (pos (2 ^ 31)) axis }
     ensures { IsPlaneAnswer axis asked result }
 {
-    let within = clamped(asked, scaled_twice(axis.lo), scaled_twice(axis.hi));
+    let within = put_in_range(asked, scaled_twice(axis.lo), scaled_twice(axis.hi));
     Answer {
         demand: divided_twice(within.value, axis),
         limited: within.limited,
@@ -174,12 +171,11 @@ fn answered_on_plane(asked: i128, axis: Axis) -> Answer
 }
 
 /// The answer of yaw.
-#[tactic(auto, unfolding(dp_plant::specs::Yaw::issued_turn_of))]
 fn answered_in_yaw(asked: i128, axis: Axis) -> Answer
     requires axis { IsAxis (pos (2 ^ 38)) axis }
     ensures { IsYawAnswer axis asked result }
 {
-    let within = clamped(asked, scaled(axis.lo), scaled(axis.hi));
+    let within = put_in_range(asked, scaled(axis.lo), scaled(axis.hi));
     Answer {
         demand: divided(within.value, axis),
         limited: within.limited,

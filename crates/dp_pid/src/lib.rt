@@ -25,10 +25,10 @@
 
 mod axis;
 mod body;
-mod issue;
+mod law;
 #[cfg(test)]
 mod tests;
 mod wind;
 
-pub use issue::{Asked, issue};
+pub use law::{Asked, issue};
 pub use wind::wind_push;

@@ -199,8 +199,18 @@ fn damps_what_moves(rt: HostRuntime) {
     check(&rt, &plane, &yaw, &setpoint, pair, wind, (want, NONE));
 }
 
+#[tactic(auto, using(crate::proofs::WindRows::built_in_shares), unfolding(dp_plant::specs::BuiltInPlant::built_in_plant))]
+fn check_wind(rt: &impl Abort, angle: u32, speed: u32, want: [i64; 3])
+    requires angle { angle < 36000 }
+    requires speed { speed < 100000 }
+{
+    let plant = p0();
+    assert_eq!(rt; wind_push(&plant.wind, angle, speed), want);
+}
+
 #[test]
 fn takes_the_row_of_the_angle(rt: HostRuntime) {
-    let plant = p0();
-    assert_eq!(rt; wind_push(&plant.wind, 4500, 5144), [-3_280_541, -4_037_588, 0]);
+    check_wind(&rt, 4500, 5144, [-3_280_541, -4_037_588, 0]);
+    check_wind(&rt, 2999, 5144, [-4_542_287, -1_514_096, 0]);
+    check_wind(&rt, 35_999, 99_999, [-1_716_579_438, 572_193_145, 0]);
 }

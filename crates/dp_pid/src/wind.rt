@@ -1,5 +1,6 @@
 //! What the wind pushes.
-ghost use Rattle.std.specs.Prelude.{◌≡◌, ◌≤◌, ◌<◌, ◌^◌, pos, Some, All, unsigned_abs};
+ghost use Rattle.std.specs.Prelude.{◌≡◌, ◌≤◌, ◌<◌, ◌^◌, ◌*ℤ◌, pos, neg_ℤ, Some, All, unsigned_abs};
+ghost use Rattle.dp_fixed.specs.Order.{clamp_of};
 ghost use Rattle.dp_plant.specs.SoundPlant.{AreWindShares};
 ghost use Rattle.dp_pid.specs.WindPush.{IsWindPush, pushed_by, row_push, wind_push};
 
@@ -12,15 +13,31 @@ const LIMIT: i128 = 1 << 31;
 /// The scale of the table's shares.
 const SHARES: i128 = 1 << 20;
 
+fn squared(speed: u32) -> i128
+    requires { speed < 100000 }
+    ensures value { result ≡ pos speed *ℤ pos speed }
+    ensures bound { unsigned_abs result ≤ 2 ^ 34 }
+{
+    speed as i128 * speed as i128
+}
+
+/// A push within the limit.
+fn capped(push: i128) -> i64
+    ensures value { result ≡ clamp_of push (neg_ℤ (pos (2 ^ 31))) (pos (2 ^ 31)) }
+    ensures bound { unsigned_abs result ≤ 2 ^ 31 }
+{
+    narrow(clamp(push, -LIMIT, LIMIT))
+}
+
+/// What a share of the table pushes at a speed.
 fn pushed_by(share: i64, speed: u32) -> i64
     requires share { unsigned_abs share ≤ 2 ^ 24 }
     requires speed { speed < 100000 }
     ensures value { result ≡ pushed_by share (pos speed) }
     ensures bound { unsigned_abs result ≤ 2 ^ 31 }
 {
-    let speed = speed as i128;
-    let push = floor_div(product(share, speed * speed), SHARES);
-    narrow(clamp(push, -LIMIT, LIMIT))
+    let whole = product(share, squared(speed));
+    capped(floor_div(whole, SHARES))
 }
 
 fn row_push(row: &[i64; 3], speed: u32) -> [i64; 3]

@@ -18,8 +18,33 @@ pub struct Asked {
     pub limited: [bool; 3],
 }
 
+/// The gains and the range of surge, axis 0, or sway, axis 1.
+fn plane_axis(g: &Gains, b: &Box3, j: usize) -> Axis
+    requires { j < 2 }
+    ensures { result ≡ plane_axis g.now b.now j }
+{
+    Axis {
+        kp: g.kp[j],
+        kd: g.kd[j],
+        bias: g.bias[j],
+        lo: b.lo[j],
+        hi: b.hi[j],
+    }
+}
+
+fn yaw_axis(y: &YawGains, b: &Box3) -> Axis
+    ensures { result ≡ yaw_axis y.now b.now }
+{
+    Axis {
+        kp: y.kp,
+        kd: y.kd,
+        bias: y.bias,
+        lo: b.lo[2],
+        hi: b.hi[2],
+    }
+}
+
 /// The answer of surge, axis 0, or sway, axis 1.
-#[tactic(auto, using(crate::proofs::AxisRanges::axes))]
 fn plane_answer(g: &Gains, b: &Box3, j: usize, along: Along, wind: i64) -> Answer
     requires gains { IsLawGains g.now }
     requires limits { IsPlaneBox b.now }
@@ -31,18 +56,11 @@ fn plane_answer(g: &Gains, b: &Box3, j: usize, along: Along, wind: i64) -> Answe
         IsPlaneAnswer axis (asked_of_plane axis along wind) result
     }
 {
-    let axis = Axis {
-        kp: g.kp[j],
-        kd: g.kd[j],
-        bias: g.bias[j],
-        lo: b.lo[j],
-        hi: b.hi[j],
-    };
+    let axis = plane_axis(g, b, j);
     axis.on_plane(along, wind)
 }
 
 /// The answer of yaw.
-#[tactic(auto, using(crate::proofs::AxisRanges::axes))]
 fn yaw_answer(y: &YawGains, b: &Box3, along: Along, wind: i64) -> Answer
     requires gains { IsYawGains y.now }
     requires limits { IsYawBox b.now }
@@ -53,13 +71,7 @@ fn yaw_answer(y: &YawGains, b: &Box3, along: Along, wind: i64) -> Answer
         IsYawAnswer axis (asked_of_yaw axis along wind) result
     }
 {
-    let axis = Axis {
-        kp: y.kp,
-        kd: y.kd,
-        bias: y.bias,
-        lo: b.lo[2],
-        hi: b.hi[2],
-    };
+    let axis = yaw_axis(y, b);
     axis.in_yaw(along, wind)
 }
 
