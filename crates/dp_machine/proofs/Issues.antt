@@ -36,8 +36,8 @@ of_their_cycle p at s f t e =
 
 forces_count : (p : Plant) (lost : ℕ) (demand : List ℤ) (o : Option RawCase) → case_of p lost ≡ o → IsSoundPlant p
     → length (forces_of p.thrusters.items o demand) ≡ length p.thrusters.items
-forces_count p lost demand None e sound = length-map (λ t. pos 0) p.thrusters.items
-forces_count p lost demand (Some c) e sound = length-map (thrust_of demand) c.b.items ∙ (within_of p lost c sound e).rows
+forces_count p lost demand None e sound = length-map p.thrusters.items (λ t. pos 0)
+forces_count p lost demand (Some c) e sound = length-map c.b.items (thrust_of demand) ∙ (within_of p lost c sound e).rows
 
 forces_by-count : (p : Plant) (lost : ℕ) (demand : List ℤ) → IsSoundPlant p → length (forces_by p lost demand) ≡ length p.thrusters.items
 unfolding forces_by

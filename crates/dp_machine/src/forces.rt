@@ -71,10 +71,16 @@ fn no_thrusts(thrusters: &ArrayVec<Thruster, 12>) -> ArrayVec<i64, 12>
     ensures { result.items ≡ map (λ t. pos 0) thrusters.now.items }
 {
     let mut forces = ArrayVec::new();
-    for _thruster in thrusters.as_slice() {
-        forces.push(0);
+    for thruster in thrusters.as_slice() {
+        forces.push(no_thrust(thruster));
     }
     forces
+}
+
+fn no_thrust(_: &Thruster) -> i64
+    ensures { result ≡ pos 0 }
+{
+    0
 }
 
 /// The force of a thruster, by its row of shares over 2^20.
