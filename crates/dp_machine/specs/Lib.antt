@@ -1,0 +1,12 @@
+pub mod Window
+pub mod Verdict
+pub mod Fused
+pub mod WindPush
+pub mod Case
+pub mod Step
+pub mod Run
+pub mod Reference
+pub mod Ranges
+pub mod Machine
+pub mod Inside
+pub mod Laws
