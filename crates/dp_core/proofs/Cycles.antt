@@ -1,5 +1,5 @@
 -- Cycles of control, one after another: one more frame, frames that come later, and how many were done.
-use Rattle.std.proofs.Common.{Bool, List, None, Option, Some, [], add-one, ap, arith, cond, drop, length, length-drop, refl, subst, suc, sym, take, zero, ℕ, ℤ, ◌++◌, ◌+◌, ◌<◌, ◌∙◌, ◌∷◌, ◌≡◌, ◌≤◌}
+use Rattle.std.proofs.Common.{Bool, List, None, Option, Some, [], add-one, ap, arith, cond, drop, false, length, length-drop, refl, subst, suc, sym, take, true, zero, ℕ, ℤ, ◌++◌, ◌+◌, ◌<◌, ◌∙◌, ◌∷◌, ◌≡◌, ◌≤◌}
 use Rattle.std.proofs.lemmas.List.{drop-append-le, length-take-le, take-append-le}
 use Rattle.std.specs.Prelude.{slice_get}
 use Rattle.dp_machine.specs.declared.issue.Issue.{Issue}
@@ -50,9 +50,13 @@ pub record IsCycle (s : State) (t : Step) : Type 0 where
   pub cycle : t.issue.cycle ≡ s.count
   pub count : t.next.count ≡ s.count + 1
 
+cycle-some : (s : State) (b : Bool) (r t : Step) → cond b (Some r) None ≡ Some t → r.issue.cycle ≡ s.count → r.next.count ≡ s.count + 1 → IsCycle s t
+cycle-some s false r t e i n = cc
+cycle-some s true r t e i n = (let same : r ≡ t = cc in subst (IsCycle s) same (record { cycle = i; count = n }))
+
 pub step-is_cycle : (p : Plant) (at : Setpoint) (s : State) (f : Frame) (t : Step) → step_at p at s f ≡ Some t → IsCycle s t
 unfolding step_at
-step-is_cycle p at s f t e = cc
+step-is_cycle p at s f t e = cycle-some s _ _ t e refl refl
 
 pub after-count : (p : Plant) (at : Setpoint) (s : State) (f : Frame) → (state_after s (step_at p at s f)).count ≡ suc s.count
 unfolding state_after

@@ -14,3 +14,6 @@ mod InStep
 mod Worlds
 pub mod HistoryLemmas
 pub mod VoteLemmas
+mod Halts
+mod SoundPlants
+mod Limits

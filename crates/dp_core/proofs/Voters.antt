@@ -209,8 +209,7 @@ first_ballot-represents p k h v s =
     ∙ (ap (λ f. ballot_from (agreed_force k h) (min 6 (unfresh_cycles k h)) f) s.last_fresh
     ∙ few (agreed_force k h) (unfresh_cycles k h) (last_fresh k h)))
 
-ballot_by : (v : VoterState) (o : Option Ballot) (b : Ballot) → first_ballot v ≡ b → ballot_given v o ≡  o b
-unfolding 
+ballot_by : (v : VoterState) (o : Option Ballot) (b : Ballot) → first_ballot v ≡ b → ballot_given v o ≡ unwrap_or o b
 ballot_by v None b e = e
 ballot_by v (Some a) b e = refl
 

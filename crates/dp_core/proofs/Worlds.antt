@@ -18,9 +18,10 @@ use Rattle.dp_core.specs.Trajectory.{last_issue, trajectory}
 use Rattle.dp_core.specs.Voting.{Message, answer, answer_if, ballot, high_of, low_of, message_of, taken_forces}
 use Rattle.dp_core.specs.WorldState.{IsAllowed, WorldState, after, after_order, change_at, last_of, voter_of}
 use Rattle.dp_core.specs.WorldView.{IsInStep}
+use Rattle.dp_core.specs.declared.answers.Heard.{Heard}
 use Rattle.dp_core.specs.declared.answers.Ran.{Ran}
 use Rattle.dp_core.specs.declared.event.Seen.{Seen}
-use Rattle.dp_core.specs.declared.event.Seen.TheVariants.{Sent as SeenSent}
+use Rattle.dp_core.specs.declared.event.Seen.TheVariants.{Done as SeenDone, Heard as SeenHeard, Ran as SeenRan, Sent as SeenSent, Skewed as SeenSkewed, Voted as SeenVoted}
 use Rattle.dp_machine.specs.declared.issue.Issue.{Issue}
 use Rattle.dp_core.specs.declared.event.Event.{Event}
 use Rattle.dp_core.specs.declared.event.Event.TheVariants.{Order, Run, Say, Skew, Stop, Vote, Wire}
@@ -299,47 +300,77 @@ vote-answer es w k b l r is =
     let t = voter-there es w k l r in
     is t.0 t.1 ∙ ballot-represents w.plant k (history w.plant es) t.0 (r.voters k t.0 t.1)
 
-pub say-answer : (es : List Event) (w : WorldState) (a k : ℕ) (m : Message) (o : Took) → a < 3 → k < length w.plant.thrusters.items → Represents es w → ((v : VoterState) → slice_get w.voters k ≡ Some v → o ≡ answer_of v a m.cycle m.force) → o ≡ answer w.plant k a (history w.plant es) m
-say-answer es w a k m o a3 l r is =
+pub say-answer : (es : List Event) (w : WorldState) (a k n : ℕ) (g f : ℤ) (o : Took) → a < 3 → k < length w.plant.thrusters.items → g ≡ f → Represents es w → ((v : VoterState) → slice_get w.voters k ≡ Some v → o ≡ answer_of v a n g) → o ≡ answer w.plant k a (history w.plant es) (record { cycle = n; force = f })
+say-answer es w a k n g f o a3 l same r is =
     let t = voter-there es w k l r in
-    is t.0 t.1 ∙ answer-represents w.plant k a (history w.plant es) m t.0 a3 (r.voters k t.0 t.1)
+    is t.0 t.1 ∙ (answer-represents w.plant k a (history w.plant es) (record { cycle = n; force = g }) t.0 a3 (r.voters k t.0 t.1) ∙ ap (λ z. answer w.plant k a (history w.plant es) (record { cycle = n; force = z })) same)
 
 -- of an order with a message, and of one without
-pub order-answer : (es : List Event) (w : WorldState) (a k : ℕ) (m : Message) (o : Took) → a < 3 → k < length w.plant.thrusters.items → Some m ≡ message_of k (last_of (slice_get w.computers a)) → Represents es w → ((v : VoterState) → slice_get w.voters k ≡ Some v → o ≡ answer_of v a m.cycle m.force) → Some o ≡ answer_if w.plant k a (history w.plant es) (message_of k (last_issue a (history w.plant es)))
+pub order-answer : (es : List Event) (w : WorldState) (a k n : ℕ) (g f : ℤ) (o : Took) → a < 3 → k < length w.plant.thrusters.items → g ≡ f → Some (record { cycle = n; force = f }) ≡ message_of k (last_of (slice_get w.computers a)) → Represents es w → ((v : VoterState) → slice_get w.voters k ≡ Some v → o ≡ answer_of v a n g) → Some o ≡ answer_if w.plant k a (history w.plant es) (message_of k (last_issue a (history w.plant es)))
 unfolding answer_if
-order-answer es w a k m o a3 l says r is =
-    let last = last-represents es w a a3 r in
-    ap Some (say-answer es w a k m o a3 l r is) ∙ ap (answer_if w.plant k a (history w.plant es)) (says ∙ ap (message_of k) last)
+order-answer es w a k n g f o a3 l same says r is =
+    ap Some (say-answer es w a k n g f o a3 l same r is) ∙ ap (answer_if w.plant k a (history w.plant es)) (says ∙ ap (message_of k) (last-represents es w a a3 r))
 
 pub order-none : (es : List Event) (w : WorldState) (a k : ℕ) → a < 3 → None ≡ message_of k (last_of (slice_get w.computers a)) → Represents es w → None ≡ answer_if w.plant k a (history w.plant es) (message_of k (last_issue a (history w.plant es)))
 unfolding answer_if
 order-none es w a k a3 says r = ap (answer_if w.plant k a (history w.plant es)) (says ∙ ap (message_of k) (last-represents es w a a3 r))
 
--- ---- an event that is one of a kind
+-- ---- a world after an event
 
-pub allowed : (now : WorldState) (e d : Event) → e ≡ d → IsAllowed now e → IsAllowed now d
-allowed now e d is a = subst (IsAllowed now) is a
-
-pub applied : (es : List Event) (now new : WorldState) (e d : Event) → e ≡ d → (Represents es now → Represents (d ∷ es) new) → Represents es now → Represents (e ∷ es) new
-applied es now new e d is next r = subst (λ q. Represents (q ∷ es) new) (sym is) (next r)
-
-pub seen-as : (now : WorldState) (es : List Event) (e d : Event) (s : Seen) → e ≡ d → s ≡ seen_of now.plant (history now.plant es) d → s ≡ seen_of now.plant (history now.plant es) e
-seen-as now es e d s is q = q ∙ ap (seen_of now.plant (history now.plant es)) (sym is)
-
--- a world after an event
 pub went-on : (es : List Event) (now new : WorldState) (d : Event) → new ≡ after now d → IsAllowed now d → Represents es now → Represents (d ∷ es) new
 went-on es now new d n a r = subst (Represents (d ∷ es)) (sym n) (after-represents es now d a r)
 
 pub plant-kept : (now new : WorldState) (d : Event) → new ≡ after now d → new.plant ≡ now.plant
 plant-kept now new d n = ap (λ (w : WorldState). w.plant) n ∙ after-plant now d
 
+pub wire-is : (w : WorldState) (f : Frame) (xs : List ComputerState) (vs : List VoterState) → xs ≡ map (λ x. after_wire x f) w.computers → vs ≡ map (λ v. begun v f.cycle) w.voters → f.cycle ≡ w.cycles_begun
+    → record { plant = w.plant; computers = xs; voters = vs; cycles_begun = w.cycles_begun + 1 } ≡ after w (Wire f)
+unfolding after
+wire-is w f xs vs ex ev ec =
+    let voters = ev ∙ ap (λ n. map (λ v. begun v n) w.voters) ec in
+    rw (ex, voters)
+
 pub order-unsaid : (now : WorldState) (a k : ℕ) → None ≡ message_of k (last_of (slice_get now.computers a)) → now ≡ after now (Order a k)
 unfolding after
 order-unsaid now a k says = ap (λ (vs : List VoterState). record now { voters = vs }) (sym (changed-same now.voters k)) ∙ ap (λ (o : Option Message). record now { voters = change_at now.voters k (after_order a o) }) says
 
-pub order-said : (now new : WorldState) (a k : ℕ) (m : Message) → Some m ≡ message_of k (last_of (slice_get now.computers a)) → new ≡ after now (Say a k m.cycle m.force) → new ≡ after now (Order a k)
+pub say-said : (now new : WorldState) (a k n : ℕ) (g f : ℤ) → g ≡ f → new ≡ after now (Say a k n g) → new ≡ after now (Say a k n f)
+say-said now new a k n g f same e = e ∙ ap (λ z. after now (Say a k n z)) same
+
+pub order-said : (now new : WorldState) (a k n : ℕ) (g f : ℤ) → g ≡ f → Some (record { cycle = n; force = f }) ≡ message_of k (last_of (slice_get now.computers a)) → new ≡ after now (Say a k n g) → new ≡ after now (Order a k)
 unfolding after
-order-said now new a k m says e = e ∙ ap (λ (o : Option Message). record now { voters = change_at now.voters k (after_order a o) }) says
+order-said now new a k n g f same says e = say-said now new a k n g f same e ∙ ap (λ (o : Option Message). record now { voters = change_at now.voters k (after_order a o) }) says
+
+-- ---- what is seen of an event
+
+module _ (p : Plant) (h : List Moment) (e : Event) where
+  pub seen-wire : (f : Frame) (hs : List Heard) → hs ≡ answers_to_wire p h → e ≡ Wire f → SeenHeard hs ≡ seen_of p h e
+  unfolding seen_of
+  seen-wire f hs a is = rw is (ap SeenHeard a)
+
+  pub seen-run : (c : ℕ) (o : Ran) → o ≡ answer_to_run p c h (modes.mode c h) → e ≡ Run c → SeenRan o ≡ seen_of p h e
+  unfolding seen_of
+  seen-run c o a is = rw is (ap SeenRan a)
+
+  pub seen-order : (a k : ℕ) (o : Option Took) → o ≡ answer_if p k a h (message_of k (last_issue a h)) → e ≡ Order a k → SeenSent o ≡ seen_of p h e
+  unfolding seen_of
+  seen-order a k o q is = rw is (ap SeenSent q)
+
+  pub seen-vote : (k : ℕ) (b : Ballot) → b ≡ ballot k h → e ≡ Vote k → SeenVoted b ≡ seen_of p h e
+  unfolding seen_of
+  seen-vote k b q is = rw is (ap SeenVoted q)
+
+  pub seen-skew : (c : ℕ) (at : Place) (b : Bool) → b ≡ is_live (modes.mode c h) → e ≡ Skew c at → SeenSkewed b ≡ seen_of p h e
+  unfolding seen_of
+  seen-skew c at b q is = rw is (ap SeenSkewed q)
+
+  pub seen-say : (a k n : ℕ) (g f : ℤ) (o : Took) → o ≡ answer p k a h (record { cycle = n; force = g }) → g ≡ f → e ≡ Say a k n f → SeenSent (Some o) ≡ seen_of p h e
+  unfolding seen_of
+  seen-say a k n g f o q same is = rw is (ap (λ t. SeenSent (Some t)) (q ∙ ap (λ z. answer p k a h (record { cycle = n; force = z })) same))
+
+  pub seen-stop : (c : ℕ) → e ≡ Stop c → SeenDone ≡ seen_of p h e
+  unfolding seen_of
+  seen-stop c is = rw is
 
 -- ---- a new world
 

@@ -3,7 +3,8 @@ ghost use Rattle.std.specs.Prelude.{◌≡◌, ◌≢◌, ◌^◌, IfOk, option_
 ghost use Rattle.dp_plant.specs.FrameRanges.{IsFrameWithin};
 ghost use Rattle.dp_plant.specs.Ranges.{IsVectorWithin};
 ghost use Rattle.dp_plant.specs.SoundPlant.{IsSoundPlant};
-ghost use Rattle.dp_core.specs.ComputerState.{SwitchedOff, after_run, after_skew, after_stop, after_wire, first_computer, mode_of, run_answer, skew_answer, wire_answer};
+ghost use Rattle.dp_plant.specs.declared.voting.Mode.TheVariants.{Off};
+ghost use Rattle.dp_core.specs.ComputerState.{after_run, after_skew, after_stop, after_wire, first_computer, mode_of, run_answer, skew_answer, wire_answer};
 
 use crate::{Heard, Issue, Ran};
 use circular_buffer::HeapCircularBuffer;
@@ -71,7 +72,7 @@ impl Computer {
     /// Takes in the next frame, to be stepped over later.
     #[tactic(auto, unfolding(crate::specs::ComputerState::after_wire, crate::specs::ComputerState::wire_in, crate::specs::ComputerState::wire_answer, crate::specs::ComputerState::wire_answer_in))]
     pub(crate) fn wire(&mut self, f: &Frame) -> Heard
-        requires next { self.old.control ≢ SwitchedOff → f.now.cycle ≡ self.old.next }
+        requires next { mode_of self.old.control ≢ Off → f.now.cycle ≡ self.old.next }
         requires within { IsFrameWithin f.now }
         ensures new { self.new ≡ after_wire self.old f.now }
         ensures answer { result ≡ wire_answer self.old }

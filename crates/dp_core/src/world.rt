@@ -209,12 +209,20 @@ impl World {
     {
         self.computers[c as usize].last()
     }
+    fn last(&self, c: u8) -> Option<&Issue>
+        requires { c < 3 }
+        ensures { option_copied result ≡ last_of (slice_get self.now.computers c) }
+    {
+        self.computers[c as usize].last()
+    }
+
     /// What a computer's last issue says to a voter.
+    #[tactic(auto, unfolding(crate::specs::Voting::message_of))]
     fn message(&self, from: u8, voter: u8) -> Option<(u64, i64)>
         requires { from < 3 }
         ensures { option_map message_by result ≡ message_of voter (last_of (slice_get self.now.computers from)) }
     {
-        match self.computers[from as usize].last() {
+        match self.last(from) {
             None => None,
             Some(issue) => message_to(issue, voter),
         }

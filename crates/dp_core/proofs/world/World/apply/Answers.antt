@@ -1,0 +1,33 @@
+-- What each arm answers is what is seen of the event.
+use Rattle.std.proofs.Common.{rules}
+use Rattle.dp_core.specs.History.{history}
+use Rattle.dp_core.proofs.Worlds.{seen-order, seen-run, seen-say, seen-skew, seen-stop, seen-vote, seen-wire}
+use Rattle.dp_core.proofs.world.World.apply.Goals as goal
+
+pub returns-in-Wire-clause-seen : goal.returns-in-Wire-clause-seen
+returns-in-Wire-clause-seen c = λ es r.
+    seen-wire c.args.self.now.plant (history c.args.self.now.plant es) c.args.e.now _ _ (c.wire.ensures.answers es r) (search rules)
+
+pub returns-in-Run-clause-seen : goal.returns-in-Run-clause-seen
+returns-in-Run-clause-seen c = λ es r.
+    seen-run c.args.self.now.plant (history c.args.self.now.plant es) c.args.e.now _ _ (c.run.ensures.answer es r) (search rules)
+
+pub returns-in-Order-clause-seen : goal.returns-in-Order-clause-seen
+returns-in-Order-clause-seen c = λ es r.
+    seen-order c.args.self.now.plant (history c.args.self.now.plant es) c.args.e.now _ _ _ (c.order.ensures.answer es r) (search rules)
+
+pub returns-in-Vote-clause-seen : goal.returns-in-Vote-clause-seen
+returns-in-Vote-clause-seen c = λ es r.
+    seen-vote c.args.self.now.plant (history c.args.self.now.plant es) c.args.e.now _ _ (c.vote.ensures.ballot es r) (search rules)
+
+pub returns-in-Skew-clause-seen : goal.returns-in-Skew-clause-seen
+returns-in-Skew-clause-seen c = λ es r.
+    seen-skew c.args.self.now.plant (history c.args.self.now.plant es) c.args.e.now _ _ _ (c.skew.ensures.answer es r) (search rules)
+
+pub returns-in-Say-clause-seen : goal.returns-in-Say-clause-seen
+returns-in-Say-clause-seen c = λ es r.
+    seen-say c.args.self.now.plant (history c.args.self.now.plant es) c.args.e.now _ _ _ _ _ _ (c.say.ensures.answer es r) (search rules) (search rules)
+
+pub returns-in-Stop-clause-seen : goal.returns-in-Stop-clause-seen
+returns-in-Stop-clause-seen c = λ es r.
+    seen-stop c.args.self.now.plant (history c.args.self.now.plant es) c.args.e.now _ (search rules)
