@@ -17,3 +17,4 @@ pub mod VoteLemmas
 mod Halts
 mod SoundPlants
 mod Limits
+mod BuiltIn

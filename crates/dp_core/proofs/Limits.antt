@@ -61,11 +61,11 @@ record IsOrdered (b : Box3) : Type 0 where
 
 find-at : {A : Type 0} (test : A → Bool) (xs : List A) (x : A) → find test xs ≡ Some x → (k : ℕ) × (slice_get xs k ≡ Some x)
 find-at test [] x e = cc
-find-at test (y ∷ ys) x e = by (test y) refl
+find-at test (y ∷ ys) x e = by (test y) refl (find-at test ys x)
   where
-    by : (b : Bool) → test y ≡ b → (k : ℕ) × (slice_get (y ∷ ys) k ≡ Some x)
-    by true t = (0, rw t at e)
-    by false t = (let r = find-at test ys x (rw t at e) in (suc r.0, r.1))
+    by : (b : Bool) → test y ≡ b → (find test ys ≡ Some x → (k : ℕ) × (slice_get ys k ≡ Some x)) → (k : ℕ) × (slice_get (y ∷ ys) k ≡ Some x)
+    by true t ih = (0, rw t at e)
+    by false t ih = (let r = ih (rw t at e) in (suc r.0, r.1))
 
 case-ordered : (n : ℕ) (c : RawCase) → IsCaseWithin n c → IsOrdered c.bounds
 case-ordered n c w =

@@ -6,7 +6,7 @@ use Rattle.dp_core.proofs.world.World.apply.Goals as goal
 
 pub returns-in-Wire-clause-seen : goal.returns-in-Wire-clause-seen
 returns-in-Wire-clause-seen c = λ es r.
-    seen-wire c.args.self.now.plant (history c.args.self.now.plant es) c.args.e.now _ _ (c.wire.ensures.answers es r) (search rules)
+    seen-wire c.args.self.now.plant (history c.args.self.now.plant es) c.args.e.now c.in-Wire.f _ (c.wire.ensures.answers es r) (search rules)
 
 pub returns-in-Run-clause-seen : goal.returns-in-Run-clause-seen
 returns-in-Run-clause-seen c = λ es r.
@@ -22,12 +22,12 @@ returns-in-Vote-clause-seen c = λ es r.
 
 pub returns-in-Skew-clause-seen : goal.returns-in-Skew-clause-seen
 returns-in-Skew-clause-seen c = λ es r.
-    seen-skew c.args.self.now.plant (history c.args.self.now.plant es) c.args.e.now _ _ _ (c.skew.ensures.answer es r) (search rules)
+    seen-skew c.args.self.now.plant (history c.args.self.now.plant es) c.args.e.now _ c.in-Skew.at _ (c.skew.ensures.answer es r) (search rules)
 
 pub returns-in-Say-clause-seen : goal.returns-in-Say-clause-seen
 returns-in-Say-clause-seen c = λ es r.
-    seen-say c.args.self.now.plant (history c.args.self.now.plant es) c.args.e.now _ _ _ _ _ _ (c.say.ensures.answer es r) (search rules) (search rules)
+    seen-say c.args.self.now.plant (history c.args.self.now.plant es) c.args.e.now _ _ _ _ c.in-Say.force _ (c.say.ensures.answer es r) (search rules) (search rules)
 
 pub returns-in-Stop-clause-seen : goal.returns-in-Stop-clause-seen
 returns-in-Stop-clause-seen c = λ es r.
-    seen-stop c.args.self.now.plant (history c.args.self.now.plant es) c.args.e.now _ (search rules)
+    seen-stop c.args.self.now.plant (history c.args.self.now.plant es) c.args.e.now c.in-Stop.c (search rules)

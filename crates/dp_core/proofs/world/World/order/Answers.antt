@@ -1,4 +1,4 @@
-use Rattle.std.proofs.Common.{rules}
+use Rattle.std.proofs.Common.{None, rules, ◌∙◌, ◌≡◌}
 use Rattle.dp_core.specs.declared.event.Event.TheVariants.{Order}
 use Rattle.dp_core.proofs.Worlds.{order-answer, order-none, order-said, order-unsaid, plant-kept, went-on}
 use Rattle.dp_core.proofs.world.World.order.Goals as goal
@@ -9,7 +9,8 @@ returns-in_err-cycle-clause-represents c = λ es r.
 
 pub returns-in_err-cycle-clause-answer : goal.returns-in_err-cycle-clause-answer
 returns-in_err-cycle-clause-answer c = λ es r.
-    order-none es c.args.self.now c.args.from c.args.voter c.requires.computer c.in_err-cycle.ensures r
+    let none : c.from_residual.result ≡ None = search rules in
+    none ∙ order-none es c.args.self.now c.args.from c.args.voter c.requires.computer c.in_err-cycle.ensures r
 
 pub returns-clause-represents : goal.returns-clause-represents
 returns-clause-represents c = λ es r.
