@@ -9,7 +9,8 @@ use Rattle.dp_core.specs.Voting.{high_of, low_of}
 
 -- a demand is within a box on surge, sway and yaw
 abbrev pub IsInBox : Box3 → List ℤ → Type 0
-IsInBox box demand = (axis : ℕ) → axis < 3 → IsWithin (entry box.lo axis) (entry box.hi axis) (entry demand axis)
+IsInBox box demand = (axis : ℕ) → axis < 3
+    → IsWithin (entry box.lo axis) (entry box.hi axis) (entry demand axis)
 
 -- whatever groups are lost, each force that the case of these gives for a demand in its box is within the thruster's limits
 abbrev pub CanGiveDemand : Plant → Type 0

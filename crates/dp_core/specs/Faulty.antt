@@ -22,4 +22,5 @@ is_faulty_in_cycle c (m ∷ h) =
 unfoldable pub AtMostOneFaulty : List Moment → Type 0
 AtMostOneFaulty [] = Unit {0}
 AtMostOneFaulty (m ∷ h) = AtMostOneFaulty h
-    × ((c d : ℕ) → is_faulty_in_cycle c (m ∷ h) ≡ true → is_faulty_in_cycle d (m ∷ h) ≡ true → c ≡ d)
+    × ((c d : ℕ) → is_faulty_in_cycle c (m ∷ h) ≡ true → is_faulty_in_cycle d (m ∷ h) ≡ true
+        → c ≡ d)

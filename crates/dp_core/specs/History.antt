@@ -29,7 +29,8 @@ answer_to_wire p c h Live = if cycles_begun h - frames_done p c h == 16 then Ove
 -- what each of the three computers answers to the next frame
 abbrev pub answers_to_wire : Plant → List Moment → List Heard
 answers_to_wire p h =
-    answer_to_wire p 0 h (mode 0 h) ∷ answer_to_wire p 1 h (mode 1 h) ∷ answer_to_wire p 2 h (mode 2 h) ∷ []
+    answer_to_wire p 0 h (mode 0 h) ∷ answer_to_wire p 1 h (mode 1 h)
+    ∷ answer_to_wire p 2 h (mode 2 h) ∷ []
 
 unfoldable pub answer_over : Plant → State → Option Frame → Ran
 answer_over p s None = RanIdle
@@ -39,13 +40,15 @@ answer_over p s (Some f) = step_answer (step_of p s f)
 unfoldable pub answer_to_run : Plant → ℕ → List Moment → Mode → Ran
 answer_to_run p c h Off = RanOff
 answer_to_run p c h Aligning = RanAligning
-answer_to_run p c h Live = answer_over p (trajectory p c h) (slice_get (frames h) (frames_done p c h))
+answer_to_run p c h Live =
+    answer_over p (trajectory p c h) (slice_get (frames h) (frames_done p c h))
 
 unfoldable pub seen_of : Plant → List Moment → Event → Seen
 seen_of p h (Wire f) = SeenHeard (answers_to_wire p h)
 seen_of p h (Run c) = SeenRan (answer_to_run p c h (mode c h))
 seen_of p h (Order a k) = SeenSent (answer_if p k a h (message_of k (last_issue a h)))
-seen_of p h (Say a k cycle force) = SeenSent (Some (answer p k a h (record { cycle = cycle; force = force })))
+seen_of p h (Say a k cycle force) =
+    SeenSent (Some (answer p k a h (record { cycle = cycle; force = force })))
 seen_of p h (Vote k) = SeenVoted (ballot k h)
 seen_of p h (Skew c at) = SeenSkewed (is_live (mode c h))
 seen_of p h (Stop c) = SeenDone
@@ -53,4 +56,5 @@ seen_of p h (Stop c) = SeenDone
 -- the newest first, of events as of moments
 unfoldable pub history : Plant → List Event → List Moment
 history p [] = []
-history p (e ∷ before) = record { event = e; seen = seen_of p (history p before) e } ∷ history p before
+history p (e ∷ before) =
+    record { event = e; seen = seen_of p (history p before) e } ∷ history p before

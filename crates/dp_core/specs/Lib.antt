@@ -12,3 +12,11 @@ pub mod WorldView
 pub mod CanGiveDemand
 pub mod Laws
 pub mod Represents
+
+pub use Rattle.dp_core.specs.Faulty.{AtMostOneFaulty}
+pub use Rattle.dp_core.specs.History.{answer_to_run, answers_to_wire, history, seen_of}
+pub use Rattle.dp_core.specs.Laws.{FreshIsReference, SkewedIsFaulty, TakenIsOwn, TrajectoriesAreReference, TwoHeardAreFresh}
+pub use Rattle.dp_core.specs.Mode.{cycles_begun, frames, mode}
+pub use Rattle.dp_core.specs.Trajectory.{last_issue}
+pub use Rattle.dp_core.specs.Voting.{answer, answer_if, ballot, given_ballot, message_of, taken_force, taken_forces}
+pub use Rattle.dp_core.specs.WorldState.{IsAllowed, after}

@@ -19,7 +19,8 @@ pub record IsOwnForce (p : Plant) (k a : ℕ) (es : List Event) (f : ℤ) : Type
   pub parts : es ≡ later ++ Run a ∷ earlier
   pub live : mode a (history p earlier) ≡ Live
   pub frame : Frame
-  pub waited : slice_get (frames (history p earlier)) (frames_done p a (history p earlier)) ≡ Some frame
+  pub waited : slice_get (frames (history p earlier)) (frames_done p a (history p earlier))
+      ≡ Some frame
   pub issue : Issue
   pub issued : issue_of (step_of p (trajectory p a (history p earlier)) frame) ≡ Some issue
   pub of_cycle : cycles_begun (history p es) ≡ suc issue.cycle

@@ -25,7 +25,8 @@ state_at_base c m s = rest_in s (unwrap_or (place_of_skew c m.event) zero_place)
 unfoldable pub base : Plant → ℕ → List Moment → State
 base p c [] = first_state p
 base p c (m ∷ h) =
-    if is_base c m then state_at_base c m (run_on p (own_setpoints p) (frames h) (base p c h) (runs c h))
+    if is_base c m
+    then state_at_base c m (run_on p (own_setpoints p) (frames h) (base p c h) (runs c h))
     else base p c h
 
 -- the state that the trajectory of c has come to

@@ -16,10 +16,12 @@ use Rattle.dp_core.specs.Trajectory.{last_issue}
 
 -- the least and the greatest force of thruster k
 unfoldable pub low_of : Plant → ℕ → ℤ
-low_of p k = unwrap_or (option_map (λ (t : Thruster). t.min) (slice_get p.thrusters.items k)) (pos 0)
+low_of p k =
+    unwrap_or (option_map (λ (t : Thruster). t.min) (slice_get p.thrusters.items k)) (pos 0)
 
 unfoldable pub high_of : Plant → ℕ → ℤ
-high_of p k = unwrap_or (option_map (λ (t : Thruster). t.max) (slice_get p.thrusters.items k)) (pos 0)
+high_of p k =
+    unwrap_or (option_map (λ (t : Thruster). t.max) (slice_get p.thrusters.items k)) (pos 0)
 
 -- what an order says: a force for a cycle
 pub record Message : Type 0 where
@@ -29,7 +31,8 @@ pub record Message : Type 0 where
 -- what an issue says to voter k; nothing where it has no force for its thruster
 unfoldable pub message_of : ℕ → Option Issue → Option Message
 message_of k None = None
-message_of k (Some x) = option_map (λ f. record { cycle = x.cycle; force = f }) (slice_get x.forces.items k)
+message_of k (Some x) =
+    option_map (λ f. record { cycle = x.cycle; force = f }) (slice_get x.forces.items k)
 
 -- what an order says: the sender's last issue, or whatever a faulty computer says
 unfoldable pub message_in : List Moment → Event → Option Message
@@ -77,12 +80,14 @@ agreed_force k h = agreed_of (held_forces (taken_forces k h))
 
 -- the ballot that a vote of k gives: that of this cycle's first vote, or the one that is due now
 unfoldable pub ballot : ℕ → List Moment → Ballot
-ballot k h = unwrap_or (given_ballot k h) (ballot_from (agreed_force k h) (unfresh_cycles k h) (last_fresh k h))
+ballot k h = unwrap_or (given_ballot k h)
+    (ballot_from (agreed_force k h) (unfresh_cycles k h) (last_fresh k h))
 
 -- the answer of voter k to an order of computer a: the first refusal that holds
 unfoldable pub answer : Plant → ℕ → ℕ → List Moment → Message → Took
 answer p k a h x =
-    if not (cycles_begun h == suc x.cycle) || is_some (given_ballot k h) then Stale (cycles_begun h - 1)
+    if not (cycles_begun h == suc x.cycle) || is_some (given_ballot k h)
+    then Stale (cycles_begun h - 1)
     else (if int_lt x.force (low_of p k) then Unfit (low_of p k)
     else (if int_lt (high_of p k) x.force then Unfit (high_of p k)
     else (if is_some (taken_force k a h) then Repeated else Taken)))

@@ -20,5 +20,6 @@ IsInStep cycles x = (mode_of x.control ≡ Off → ⊥) → x.next ≡ cycles
 pub record IsWorld (w : Inside) : Type 0 where
   pub three : length w.computers ≡ 3
   pub voters : length w.voters.items ≡ length w.plant.thrusters.items
-  pub in_step : (c : ℕ) (x : ComputerState) → slice_get w.computers c ≡ Some x → IsInStep w.cycles_begun x
+  pub in_step : (c : ℕ) (x : ComputerState) → slice_get w.computers c ≡ Some x
+      → IsInStep w.cycles_begun x
   pub bounded : w.cycles_begun ≤ 2 ^ 20

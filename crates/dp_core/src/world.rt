@@ -3,12 +3,18 @@ ghost use Rattle.std.specs.Prelude.{◌≡◌, ◌<◌, ◌≤ℤ◌, ◌^◌, �
 ghost use Rattle.std.specs.Option.{option_map};
 ghost use Rattle.dp_plant.specs.FrameRanges.{IsFrameWithin};
 ghost use Rattle.dp_plant.specs.Ranges.{IsVectorWithin};
+ghost use Rattle.dp_plant.specs.SoundPlant.{IsSoundPlant};
 ghost use Rattle.dp_plant.specs.declared.thrusters.Thruster.{Thruster};
-ghost use Rattle.dp_voter.specs.VoterState.{begun};
-ghost use Rattle.dp_core.specs.ComputerState.{ComputerState, after_wire, wire_answer};
-ghost use Rattle.dp_core.specs.Voting.{message_of};
+ghost use Rattle.dp_voter.specs.Orders.{answer_of};
+ghost use Rattle.dp_voter.specs.VoterState.{VoterState, begun};
+ghost use Rattle.dp_core.specs.ComputerState.{ComputerState, after_wire, is_live, wire_answer};
 ghost use Rattle.dp_core.specs.WorldState.{last_of, message_by, voter_of};
 ghost use Rattle.dp_core.specs.WorldView.{IsInStep};
+ghost use Rattle.dp_core.specs.Represents.{Represents};
+ghost use Rattle.dp_core.specs.{IsAllowed, after, answer, answer_if, answer_to_run, answers_to_wire};
+ghost use Rattle.dp_core.specs.{ballot, history, last_issue, message_of, mode, seen_of, taken_forces};
+ghost use Rattle.dp_core.specs.declared.event.Event.{Event};
+ghost use Rattle.dp_core.specs.declared.event.Event.TheVariants.{Wire, Run, Order, Vote, Skew, Say, Stop};
 
 use crate::computer::Computer;
 use crate::{Ballot, Event, Heard, Issue, Mode, Place, Ran, Seen, Took};
@@ -40,19 +46,6 @@ impl Model for World {
 }
 
 impl World {
-    ghost use Rattle.dp_plant.specs.SoundPlant.{IsSoundPlant};
-    ghost use Rattle.dp_core.specs.ComputerState.{is_live};
-    ghost use Rattle.dp_core.specs.History.{answer_to_run, answers_to_wire, history, seen_of};
-    ghost use Rattle.dp_core.specs.Represents.{Represents};
-    ghost use Rattle.dp_core.specs.Mode.{mode};
-    ghost use Rattle.dp_core.specs.Trajectory.{last_issue};
-    ghost use Rattle.dp_core.specs.Voting.{answer, answer_if, ballot, taken_forces};
-    ghost use Rattle.dp_core.specs.WorldState.{IsAllowed, after};
-    ghost use Rattle.dp_voter.specs.Orders.{answer_of};
-    ghost use Rattle.dp_voter.specs.VoterState.{VoterState};
-    ghost use Rattle.dp_core.specs.declared.event.Event.{Event};
-    ghost use Rattle.dp_core.specs.declared.event.Event.TheVariants.{Wire, Run, Order, Vote, Skew, Say, Stop};
-
     /// Three computers that are live at the plant's first state, and a voter for each thruster, before the first cycle. No later call
     /// takes memory.
     pub fn new(alloc: Global, plant: &Plant) -> Result<World, Memory>
@@ -74,7 +67,8 @@ impl World {
     /// One event happens; it is answered.
     pub fn apply(&mut self, e: &Event) -> Seen
         requires { IsAllowed self.old e.now }
-        ensures represents { (es : List Event) → Represents es self.old → Represents (e.now ∷ es) self.new }
+        ensures represents { (es : List Event) → Represents es self.old
+            → Represents (e.now ∷ es) self.new }
         ensures seen { (es : List Event) → Represents es self.old
             → result ≡ seen_of self.old.plant (history self.old.plant es) e.now }
         ensures plant { self.new.plant ≡ self.old.plant }
@@ -102,7 +96,8 @@ impl World {
     pub fn wire(&mut self, f: &Frame) -> [Heard; 3]
         requires next { f.now.cycle ≡ self.old.cycles_begun }
         requires within { IsFrameWithin f.now }
-        ensures represents { (es : List Event) → Represents es self.old → Represents (Wire f.now ∷ es) self.new }
+        ensures represents { (es : List Event) → Represents es self.old
+            → Represents (Wire f.now ∷ es) self.new }
         ensures answers { (es : List Event) → Represents es self.old
             → result ≡ answers_to_wire self.old.plant (history self.old.plant es) }
         ensures plant { self.new.plant ≡ self.old.plant }
@@ -116,9 +111,11 @@ impl World {
     /// A computer, 0 to 2, processes the frame that waits longest.
     pub fn run(&mut self, c: u8) -> Ran
         requires { c < 3 }
-        ensures represents { (es : List Event) → Represents es self.old → Represents (Run c ∷ es) self.new }
+        ensures represents { (es : List Event) → Represents es self.old
+            → Represents (Run c ∷ es) self.new }
         ensures answer { (es : List Event) → Represents es self.old
-            → result ≡ answer_to_run self.old.plant c (history self.old.plant es) (mode c (history self.old.plant es)) }
+            → result ≡ answer_to_run self.old.plant c (history self.old.plant es)
+                (mode c (history self.old.plant es)) }
         ensures plant { self.new.plant ≡ self.old.plant }
     {
         self.computers[c as usize].run()
@@ -128,7 +125,8 @@ impl World {
     pub fn order(&mut self, from: u8, voter: u8) -> Option<Took>
         requires computer { from < 3 }
         requires voter { voter < length self.old.plant.thrusters.items }
-        ensures represents { (es : List Event) → Represents es self.old → Represents (Order from voter ∷ es) self.new }
+        ensures represents { (es : List Event) → Represents es self.old
+            → Represents (Order from voter ∷ es) self.new }
         ensures answer { (es : List Event) → Represents es self.old
             → result ≡ answer_if self.old.plant voter from (history self.old.plant es)
                 (message_of voter (last_issue from (history self.old.plant es))) }
@@ -145,7 +143,8 @@ impl World {
         ensures represents { (es : List Event) → Represents es self.old
             → Represents (Say from voter cycle force ∷ es) self.new }
         ensures answer { (es : List Event) → Represents es self.old
-            → result ≡ answer self.old.plant voter from (history self.old.plant es) (record { cycle = cycle; force = force }) }
+            → result ≡ answer self.old.plant voter from (history self.old.plant es)
+                (record { cycle = cycle; force = force }) }
         ensures plant { self.new.plant ≡ self.old.plant }
     {
         self.deliver(from, voter, cycle, force)
@@ -154,8 +153,10 @@ impl World {
     /// A voter gives the ballot of this cycle.
     pub fn vote(&mut self, voter: u8) -> Ballot
         requires { voter < length self.old.plant.thrusters.items }
-        ensures represents { (es : List Event) → Represents es self.old → Represents (Vote voter ∷ es) self.new }
-        ensures ballot { (es : List Event) → Represents es self.old → result ≡ ballot voter (history self.old.plant es) }
+        ensures represents { (es : List Event) → Represents es self.old
+            → Represents (Vote voter ∷ es) self.new }
+        ensures ballot { (es : List Event) → Represents es self.old
+            → result ≡ ballot voter (history self.old.plant es) }
         ensures plant { self.new.plant ≡ self.old.plant }
     {
         self.voters[voter as usize].vote()
@@ -165,8 +166,10 @@ impl World {
     pub fn skew(&mut self, c: u8, at: Place) -> bool
         requires computer { c < 3 }
         requires place { IsVectorWithin (2 ^ 43) at }
-        ensures represents { (es : List Event) → Represents es self.old → Represents (Skew c at ∷ es) self.new }
-        ensures answer { (es : List Event) → Represents es self.old → result ≡ is_live (mode c (history self.old.plant es)) }
+        ensures represents { (es : List Event) → Represents es self.old
+            → Represents (Skew c at ∷ es) self.new }
+        ensures answer { (es : List Event) → Represents es self.old
+            → result ≡ is_live (mode c (history self.old.plant es)) }
         ensures plant { self.new.plant ≡ self.old.plant }
     {
         self.computers[c as usize].skew(at)
@@ -175,7 +178,8 @@ impl World {
     /// A computer is switched off.
     pub fn stop(&mut self, c: u8)
         requires { c < 3 }
-        ensures represents { (es : List Event) → Represents es self.old → Represents (Stop c ∷ es) self.new }
+        ensures represents { (es : List Event) → Represents es self.old
+            → Represents (Stop c ∷ es) self.new }
         ensures plant { self.new.plant ≡ self.old.plant }
     {
         self.computers[c as usize].stop();
@@ -184,7 +188,8 @@ impl World {
     /// How each computer takes part.
     pub fn modes(&self) -> [Mode; 3]
         ensures { (es : List Event) → Represents es self.now
-            → result ≡ mode 0 (history self.now.plant es) ∷ mode 1 (history self.now.plant es) ∷ mode 2 (history self.now.plant es) ∷ [] }
+            → result ≡ mode 0 (history self.now.plant es) ∷ mode 1 (history self.now.plant es)
+                ∷ mode 2 (history self.now.plant es) ∷ [] }
     {
         [
             self.computers[0].mode(),
@@ -196,7 +201,8 @@ impl World {
     /// The orders that a voter took in this cycle, one place for each computer.
     pub fn held(&self, voter: u8) -> [Option<i64>; 3]
         requires { voter < length self.now.plant.thrusters.items }
-        ensures { (es : List Event) → Represents es self.now → result ≡ taken_forces voter (history self.now.plant es) }
+        ensures { (es : List Event) → Represents es self.now
+            → result ≡ taken_forces voter (history self.now.plant es) }
     {
         self.voters[voter as usize].held()
     }
@@ -220,7 +226,8 @@ impl World {
     #[tactic(auto, unfolding(crate::specs::Voting::message_of))]
     fn message(&self, from: u8, voter: u8) -> Option<(u64, i64)>
         requires { from < 3 }
-        ensures { option_map message_by result ≡ message_of voter (last_of (slice_get self.now.computers from)) }
+        ensures { option_map message_by result
+            ≡ message_of voter (last_of (slice_get self.now.computers from)) }
     {
         match self.last(from) {
             None => None,
@@ -234,14 +241,16 @@ impl World {
         requires computer { from < 3 }
         requires voter { voter < length self.old.plant.thrusters.items }
         ensures new { self.new ≡ after self.old (Say from voter cycle force) }
-        ensures answer { (v : VoterState) → slice_get self.old.voters voter ≡ Some v → result ≡ answer_of v from cycle force }
+        ensures answer { (v : VoterState) → slice_get self.old.voters voter ≡ Some v
+            → result ≡ answer_of v from cycle force }
     {
         self.voters[voter as usize].order(from, cycle, force)
     }
 }
 
 fn wire_all(computers: &mut [Computer; 3], f: &Frame) -> [Heard; 3]
-    requires in_step { (c : ℕ) (x : ComputerState) → slice_get computers.old c ≡ Some x → IsInStep f.now.cycle x }
+    requires in_step { (c : ℕ) (x : ComputerState) → slice_get computers.old c ≡ Some x
+        → IsInStep f.now.cycle x }
     requires within { IsFrameWithin f.now }
     ensures new { computers.new ≡ map (λ x. after_wire x f.now) computers.old }
     ensures answers { result ≡ map wire_answer computers.old }
@@ -273,7 +282,8 @@ fn message_to(issue: &Issue, voter: u8) -> Option<(u64, i64)>
 }
 
 fn voters_of(plant: &Plant) -> ArrayVec<Voter, 12>
-    requires { (k : ℕ) (t : Thruster) → slice_get plant.now.thrusters.items k ≡ Some t → t.min ≤ℤ t.max }
+    requires { (k : ℕ) (t : Thruster) → slice_get plant.now.thrusters.items k ≡ Some t
+        → t.min ≤ℤ t.max }
     ensures { result.items ≡ map voter_of plant.now.thrusters.items }
 {
     let mut voters = ArrayVec::new();
