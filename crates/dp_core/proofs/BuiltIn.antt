@@ -1,14 +1,11 @@
 -- The built-in plant's lists, each element in range.
-use Rattle.std.proofs.Common.{List, [], arith, length, neg_ℤ, pos, refl, suc, zero, ℕ, ℤ, unsigned_abs, ◌<◌, ◌∷◌, ◌≤◌, ◌≤ℤ◌, rules}
+use Rattle.std.proofs.Common.{List, [], arith, neg_ℤ, pos, refl, suc, zero, ℕ, ℤ, unsigned_abs, ◌∷◌, ◌≤◌, ◌≤ℤ◌, rules}
 use Rattle.std.proofs.lemmas.Int.{ints}
 use Rattle.std.specs.List.{AllByRecursion}
 use Rattle.std.specs.Prelude.{All, ◌^◌}
 use Rattle.dp_plant.specs.BuiltInPlant.{built_in_case, built_in_push, built_in_reference, built_in_thrusters, thruster_between}
 use Rattle.dp_plant.specs.SoundPlant.{AreRefLimits, AreWindShares, IsCaseWithin, IsLever, IsThrusterWithin}
 use Rattle.dp_plant.specs.Vectors.{entry}
-use Rattle.dp_plant.specs.declared.references.RefLimits.{RefLimits}
-use Rattle.dp_plant.specs.declared.thrusters.RawCase.{RawCase}
-use Rattle.dp_plant.specs.declared.thrusters.Thruster.{Thruster}
 
 all-none : {A : Type 0} (P : A → Type 0) → All P []
 all-none P k d l = absurd (omega arith)
@@ -46,20 +43,43 @@ row : (a b : ℤ) → unsigned_abs a ≤ 2 ^ 24 → unsigned_abs b ≤ 2 ^ 24 �
 row a b la lb = shares (2 ^ 24) a b (pos 0) la lb (omega arith)
 
 pub push : All AreWindShares built_in_push
-push = all-of AreWindShares built_in_push
-    (row (neg_ℤ (pos 180000)) (neg_ℤ (pos 60000)) (omega arith) (omega arith),
-    (row (neg_ℤ (pos 130000)) (neg_ℤ (pos 160000)) (omega arith) (omega arith),
-    (row (neg_ℤ (pos 50000)) (neg_ℤ (pos 220000)) (omega arith) (omega arith),
-    (row (pos 50000) (neg_ℤ (pos 220000)) (omega arith) (omega arith),
-    (row (pos 130000) (neg_ℤ (pos 160000)) (omega arith) (omega arith),
-    (row (pos 180000) (neg_ℤ (pos 60000)) (omega arith) (omega arith),
-    (row (pos 180000) (pos 60000) (omega arith) (omega arith),
-    (row (pos 130000) (pos 160000) (omega arith) (omega arith),
-    (row (pos 50000) (pos 220000) (omega arith) (omega arith),
-    (row (neg_ℤ (pos 50000)) (pos 220000) (omega arith) (omega arith),
-    (row (neg_ℤ (pos 130000)) (pos 160000) (omega arith) (omega arith),
-    (row (neg_ℤ (pos 180000)) (pos 60000) (omega arith) (omega arith),
-    tt))))))))))))
+push = all-of AreWindShares built_in_push (
+  row (neg_ℤ (pos 180000)) (neg_ℤ (pos 60000)) (omega arith) (omega arith),
+  (
+    row (neg_ℤ (pos 130000)) (neg_ℤ (pos 160000)) (omega arith) (omega arith),
+    (
+      row (neg_ℤ (pos 50000)) (neg_ℤ (pos 220000)) (omega arith) (omega arith),
+      (
+        row (pos 50000) (neg_ℤ (pos 220000)) (omega arith) (omega arith),
+        (
+          row (pos 130000) (neg_ℤ (pos 160000)) (omega arith) (omega arith),
+          (
+            row (pos 180000) (neg_ℤ (pos 60000)) (omega arith) (omega arith),
+            (
+              row (pos 180000) (pos 60000) (omega arith) (omega arith),
+              (
+                row (pos 130000) (pos 160000) (omega arith) (omega arith),
+                (
+                  row (pos 50000) (pos 220000) (omega arith) (omega arith),
+                  (
+                    row (neg_ℤ (pos 50000)) (pos 220000) (omega arith) (omega arith),
+                    (
+                      row (neg_ℤ (pos 130000)) (pos 160000) (omega arith) (omega arith),
+                      (
+                        row (neg_ℤ (pos 180000)) (pos 60000) (omega arith) (omega arith),
+                        tt,
+                      ),
+                    ),
+                  ),
+                ),
+              ),
+            ),
+          ),
+        ),
+      ),
+    ),
+  ),
+)
 
 thruster : (low high : ℤ) → unsigned_abs low ≤ 2 ^ 31 → unsigned_abs high ≤ 2 ^ 31 → low ≤ℤ pos 0 → pos 0 ≤ℤ high → IsThrusterWithin (thruster_between low high)
 thruster low high a b c d = record { group = omega arith; azimuth = omega arith; below = c; above = d; low = a; high = b }

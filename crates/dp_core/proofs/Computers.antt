@@ -7,20 +7,19 @@ use Rattle.std.proofs.lemmas.List.{drop-append-le, drop-drop}
 use Rattle.std.specs.Prelude.{slice_get, ◌^◌}
 use Rattle.circular_buffer.specs.Buffer.{keep_last}
 use Rattle.dp_machine.specs.Machine.{one_more}
-use Rattle.dp_machine.specs.Run.{own_setpoints, run_on, state_after}
+use Rattle.dp_machine.specs.Run.{own_setpoints, state_after}
 use Rattle.dp_machine.specs.Step.{Step, first_state, rest_in, step_of}
 use Rattle.dp_machine.specs.declared.state.State.{State}
 use Rattle.dp_core.proofs.Cycles.{run_on-empty}
 use Rattle.dp_core.proofs.Moments.{IsSkew-from_base, moment, run-no_base}
 use Rattle.dp_core.proofs.Searches.{last_issue-broken, last_issue-quiet, last_issue-run, mode-broken, mode-quiet, steps-halt, steps-quiet, steps-run}
 use Rattle.dp_core.proofs.Trajectories.{Within, done-base, done-quiet, done-run, frames-kept, trajectory-base, trajectory-quiet, trajectory-run}
-use Rattle.dp_core.specs.ComputerState.{ComputerState, Control, InControl, after_run, after_skew, after_step, after_stop, after_wire, control_in, first_computer, is_live, mode_of, oldest_answer, run_answer, run_answer_in, run_in, run_over_oldest, skew_answer, skew_in, step_answer, wire_answer, wire_answer_in, wire_in, with_frame, with_newest, with_overrun}
+use Rattle.dp_core.specs.ComputerState.{ComputerState, Control, InControl, after_run, after_skew, after_step, after_stop, after_wire, control_in, first_computer, is_live, mode_of, oldest_answer, run_answer, run_answer_in, run_in, run_over_oldest, skew_answer, skew_in, step_answer, wire_answer, wire_answer_in, wire_in, with_frame, with_overrun}
 use Rattle.dp_core.specs.History.{answer_over, answer_to_run, answer_to_wire, seen_of}
 use Rattle.dp_core.specs.Mode.{at_break, broken_mode, cycles_begun, frames}
 use Rattle.dp_core.specs.Moment.{Moment, frame_of, is_base, is_break, is_end, is_halt, is_interruption, is_overrun, is_run, is_skew, is_stop, issue_at, place_of_skew, saw_halt, saw_issue, saw_overrun, saw_skew}
 use Rattle.dp_core.specs.Represents.{ComputerRepresents}
 use Rattle.dp_core.specs.Trajectory.{base, frames_done, last_issue, runs, state_at_base, trajectory}
-use Rattle.dp_core.specs.declared.answers.Heard.{Heard}
 use Rattle.dp_core.specs.declared.answers.Ran.{Ran}
 use Rattle.dp_core.specs.declared.answers.Ran.TheVariants.{Aligning as RanAligning, Idle as RanIdle, Off as RanOff}
 use Rattle.dp_core.specs.declared.event.Event.TheVariants.{Order, Run, Say, Skew, Stop, Vote, Wire}

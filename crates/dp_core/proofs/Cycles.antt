@@ -1,12 +1,12 @@
 -- Cycles of control, one after another: one more frame, frames that come later, and how many were done.
-use Rattle.std.proofs.Common.{Bool, List, None, Option, Some, [], add-one, ap, arith, cond, drop, false, length, length-drop, refl, subst, suc, sym, take, true, zero, ℕ, ℤ, ◌++◌, ◌+◌, ◌<◌, ◌∙◌, ◌∷◌, ◌≡◌, ◌≤◌}
+use Rattle.std.proofs.Common.{Bool, List, None, Option, Some, [], add-one, ap, arith, cond, drop, false, length, length-drop, refl, subst, suc, sym, take, true, zero, ℕ, ◌++◌, ◌+◌, ◌<◌, ◌∙◌, ◌∷◌, ◌≡◌, ◌≤◌}
 use Rattle.std.proofs.lemmas.List.{drop-append-le, length-take-le, take-append-le}
 use Rattle.std.specs.Prelude.{slice_get}
 use Rattle.dp_machine.specs.declared.issue.Issue.{Issue}
 use Rattle.dp_machine.specs.declared.state.State.{State}
 use Rattle.dp_machine.specs.Reference.{reference_issue, reference_state}
-use Rattle.dp_machine.specs.Run.{Setpoints, cycle_at, issue_after, issue_of, own_setpoints, run_on, run_over, state_after}
-use Rattle.dp_machine.specs.Step.{Step, first_state, rest_in, step_at, step_of}
+use Rattle.dp_machine.specs.Run.{Setpoints, cycle_at, issue_after, issue_of, run_on, run_over, state_after}
+use Rattle.dp_machine.specs.Step.{Step, first_state, rest_in, step_at}
 use Rattle.dp_plant.specs.declared.frames.Frame.{Frame}
 use Rattle.dp_plant.specs.declared.limits.Setpoint.{Setpoint}
 use Rattle.dp_plant.specs.declared.place.Place.{Place}

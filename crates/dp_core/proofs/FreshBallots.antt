@@ -1,5 +1,5 @@
 -- With at most one faulty computer in each cycle, a fresh ballot is the reference run's force.
-use Rattle.std.proofs.Common.{Bool, List, None, Option, Some, [], ap, arith, cond, eqb, false, inl, inr, refl, subst, sym, true, ℕ, ℤ, ◌∙◌, ◌∷◌, ◌≡◌, ◌⊎◌}
+use Rattle.std.proofs.Common.{Bool, List, None, Option, Some, [], arith, cond, eqb, false, inl, inr, refl, subst, sym, true, ℕ, ℤ, ◌∙◌, ◌∷◌, ◌≡◌, ◌⊎◌}
 use Rattle.std.proofs.lemmas.Bool.{eqb-true}
 use Rattle.std.specs.Prelude.{nat_le}
 use Rattle.dp_core.proofs.Moments.{moment}
@@ -10,7 +10,6 @@ use Rattle.dp_core.specs.History.{history, seen_of}
 use Rattle.dp_core.specs.Mode.{frames}
 use Rattle.dp_core.specs.Moment.{Moment, ballot_at, is_vote, is_wire, saw_ballot}
 use Rattle.dp_core.specs.Voting.{agreed_force, ballot, given_ballot, last_fresh, taken_force, unfresh_cycles}
-use Rattle.std.specs.Option.{option_or}
 use Rattle.dp_core.specs.declared.event.Event.{Event}
 use Rattle.dp_core.specs.declared.event.Event.TheVariants.{Vote}
 use Rattle.dp_plant.specs.declared.frames.Frame.{Frame}
@@ -101,7 +100,7 @@ ballot_from-fresh None n last f true e s = let t = rw e at s in cc
 ballot_from-fresh None n last f false e s = let t = rw e at s in cc
 
 voted-first : (p : Plant) (h : List Moment) (e : Event) (k : ℕ) (b : Ballot) → given_ballot k h ≡ None → ballot_at k (moment p h e) ≡ Some b → b ≡ ballot_from (agreed_force k h) (unfresh_cycles k h) (last_fresh k h)
-unfolding ballot_at is_vote saw_ballot seen_of ballot 
+unfolding ballot_at is_vote saw_ballot seen_of ballot
 voted-first p h (Vote j) k b g s = vote_at (eqb j k) refl s
   where
     vote_at : (same : Bool) → eqb j k ≡ same → cond same (Some (ballot j h)) None ≡ Some b → b ≡ ballot_from (agreed_force k h) (unfresh_cycles k h) (last_fresh k h)

@@ -1,5 +1,5 @@
 -- A computer that isn't off has the frames of all cycles.
-use Rattle.std.proofs.Common.{Bool, List, [], Option, Some, None, arith, cond, eqb, false, inl, inr, length, map, refl, slice_set, subst, sym, true, ℕ, ◌+◌, ◌∷◌, ◌≡◌}
+use Rattle.std.proofs.Common.{Bool, List, [], Option, Some, None, arith, cond, eqb, false, inl, inr, length, map, refl, slice_set, subst, true, ℕ, ◌+◌, ◌∷◌, ◌≡◌}
 use Rattle.std.specs.Prelude.{slice_get}
 use Rattle.dp_core.proofs.Lists.{map-at, set-at}
 use Rattle.dp_machine.specs.Step.{Step, step_of}

@@ -1,5 +1,5 @@
 -- Each force of an issue lies within its thruster's limits.
-use Rattle.std.proofs.Common.{Bool, List, None, Option, Some, [], ap, arith, cond, eqb, false, inl, inr, map, neg_ℤ, pos, refl, subst, suc, sym, true, zero, ℕ, ℤ, ◌*ℤ◌, ◌+◌, ◌<ℤ◌, ◌<◌, ◌∙◌, ◌∷◌, ◌≡◌, ◌≤ℤ◌}
+use Rattle.std.proofs.Common.{Bool, List, None, Option, Some, [], arith, cond, eqb, false, pos, refl, subst, suc, true, zero, ℕ, ℤ, ◌*ℤ◌, ◌<ℤ◌, ◌∷◌, ◌≡◌, ◌≤ℤ◌}
 use Rattle.std.proofs.lemmas.Int.{clamps, ints}
 use Rattle.std.specs.List.{find}
 use Rattle.std.specs.Prelude.{slice_get, ◌+ℤ◌, ◌^◌, ◌==◌}

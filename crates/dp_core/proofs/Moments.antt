@@ -1,5 +1,5 @@
 -- What the moment of an event is to a computer.
-use Rattle.std.proofs.Common.{Bool, List, None, Option, Some, [], ap, cond, eqb, false, inl, inr, is_some, not, refl, subst, suc, sym, true, ℕ, ℤ, ◌&&◌, ◌-◌, ◌||◌, ◌≡◌, ◌⊎◌}
+use Rattle.std.proofs.Common.{Bool, List, None, Option, Some, [], cond, eqb, false, inl, inr, is_some, not, refl, subst, suc, sym, true, ℕ, ℤ, ◌&&◌, ◌-◌, ◌||◌, ◌≡◌, ◌⊎◌}
 use Rattle.std.proofs.lemmas.Bool.{and_parts, and_right, eq-eqb, eqb-true, not-false, or_parts}
 use Rattle.std.specs.Option.{option_map}
 use Rattle.std.specs.Prelude.{int_lt, slice_get}

@@ -1,6 +1,5 @@
 -- How each search changes at one more moment, by what the moment is to the computer.
 use Rattle.std.proofs.Common.{Bool, List, None, Some, false, if◌then◌else◌, is_some, refl, true, ℕ, ◌+◌, ◌||◌, ◌∷◌, ◌≡◌}
-use Rattle.dp_machine.specs.Run.{own_setpoints, run_on}
 use Rattle.dp_machine.specs.declared.issue.Issue.{Issue}
 use Rattle.dp_core.specs.Faulty.{is_faulty, is_skewed}
 use Rattle.dp_core.specs.Mode.{at_break, broken_mode, mode, since_break}

@@ -19,7 +19,6 @@ use Rattle.dp_machine.specs.Run.{issue_of, own_setpoints, run_on, run_over, stat
 use Rattle.dp_machine.specs.Step.{first_state, step_of}
 use Rattle.dp_machine.specs.declared.issue.Issue.{Issue}
 use Rattle.dp_machine.specs.declared.state.State.{State}
-use Rattle.std.specs.List.{list_any}
 use Rattle.dp_core.specs.declared.event.Event.{Event}
 use Rattle.dp_core.specs.declared.event.Event.TheVariants.{Order, Say, Skew, Wire}
 use Rattle.dp_plant.specs.declared.place.Place.{Place}

@@ -12,7 +12,6 @@ use Rattle.dp_core.specs.Represents.{VoterRepresents, newest_cycle}
 use Rattle.dp_core.specs.Trajectory.{last_issue}
 use Rattle.dp_core.specs.Voting.{Message, agreed_force, answer, answer_if, ballot, force_said, given_ballot, high_of, last_fresh, low_of, message_in, message_of, taken_force, unfresh_cycles}
 use Rattle.dp_core.specs.declared.event.Seen.TheVariants.{Sent as SeenSent}
-use Rattle.dp_machine.specs.declared.issue.Issue.{Issue}
 use Rattle.std.specs.Option.{option_or}
 use Rattle.dp_core.specs.declared.event.Event.{Event}
 use Rattle.dp_core.specs.declared.event.Event.TheVariants.{Order, Run, Say, Skew, Stop, Vote, Wire}

@@ -2,7 +2,6 @@
 use Rattle.dp_core.specs.Mode as modes
 use Rattle.std.proofs.Common.{Bool, List, None, Option, Some, [], ap, arith, eqb, false, get_or, inl, inr, length, map, refl, subst, suc, sym, zero, ℕ, ℤ, ◌&&◌, ◌+◌, ◌<◌, ◌∙◌, ◌∷◌, ◌≡◌}
 use Rattle.std.proofs.lemmas.Bool.{and_left, and_right, ne_eqb}
-use Rattle.std.specs.Option.{option_map}
 use Rattle.std.specs.Prelude.{slice_get}
 use Rattle.dp_core.proofs.Computers.{IsNothing, mode_of-control, computer-first, computer-wire, computer-kept, computer-run, computer-skew, computer-stop, wire_answer-represents, order-nothing, run-other, run_answer-represents, say-nothing, skew-other, skew_answer-represents, stop-other, vote-nothing, wire-cycles}
 use Rattle.dp_core.proofs.Lists.{below-get, changed-at, changed-length, changed-same, get-below, map-at, map-length, read-at, three-of}
@@ -20,7 +19,6 @@ use Rattle.dp_core.specs.WorldState.{IsAllowed, WorldState, after, after_order, 
 use Rattle.dp_core.specs.WorldView.{IsInStep}
 use Rattle.dp_core.specs.declared.answers.Heard.{Heard}
 use Rattle.dp_core.specs.declared.answers.Ran.{Ran}
-use Rattle.dp_core.specs.declared.event.Seen.{Seen}
 use Rattle.dp_core.specs.declared.event.Seen.TheVariants.{Done as SeenDone, Heard as SeenHeard, Ran as SeenRan, Sent as SeenSent, Skewed as SeenSkewed, Voted as SeenVoted}
 use Rattle.dp_machine.specs.declared.issue.Issue.{Issue}
 use Rattle.dp_core.specs.declared.event.Event.{Event}

@@ -1,5 +1,5 @@
 -- A plant whose thrusters can give what is demanded of them.
-use Rattle.std.specs.Prelude.{◌≡◌, ◌<◌, ◌≤ℤ◌, ℕ, List, ℤ, Some, slice_get}
+use Rattle.std.specs.Prelude.{◌≡◌, ◌<◌, ℕ, List, ℤ, Some, slice_get}
 use Rattle.dp_plant.specs.declared.limits.Box3.{Box3}
 use Rattle.dp_plant.specs.declared.plant.Plant.{Plant}
 use Rattle.dp_plant.specs.Vectors.{entry}

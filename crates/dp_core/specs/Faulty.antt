@@ -23,4 +23,4 @@ unfoldable pub AtMostOneFaulty : List Moment → Type 0
 AtMostOneFaulty [] = Unit {0}
 AtMostOneFaulty (m ∷ h) = AtMostOneFaulty h
     × ((c d : ℕ) → is_faulty_in_cycle c (m ∷ h) ≡ true → is_faulty_in_cycle d (m ∷ h) ≡ true
-        → c ≡ d)
+    → c ≡ d)

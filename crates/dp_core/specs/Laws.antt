@@ -24,8 +24,8 @@ abbrev pub TrajectoriesAreReference : Type 0
 TrajectoriesAreReference = (p : Plant) (es : List Event) → AtMostOneFaulty (history p es)
     → (c : ℕ) → mode c (history p es) ≡ Live → is_skewed c (history p es) ≡ false
     → trajectory p c (history p es)
-        ≡ reference_state p (own_setpoints p)
-            (take (frames_done p c (history p es)) (frames (history p es)))
+    ≡ reference_state p (own_setpoints p)
+    (take (frames_done p c (history p es)) (frames (history p es)))
 
 -- a computer that isn't faulty isn't skewed
 abbrev pub SkewedIsFaulty : Type 0
@@ -37,7 +37,7 @@ abbrev pub FreshIsReference : Type 0
 FreshIsReference = (p : Plant) (es : List Event) → AtMostOneFaulty (history p es)
     → (k : ℕ) (f : ℤ) → given_ballot k (history p es) ≡ Some (Fresh f)
     → force_of p (own_setpoints p) (frames (history p es)) (cycles_begun (history p es) - 1) k
-        ≡ Some f
+    ≡ Some f
 
 -- whatever is faulty, the force that a voter takes from a computer's last issue is one that the computer's own trajectory issued for
 -- this cycle; so it is after a skew
@@ -56,5 +56,5 @@ TwoHeardAreFresh = (p : Plant) → IsSoundPlant p → CanGiveDemand p
     → is_delivered k a (history p es) ≡ true → is_delivered k b (history p es) ≡ true
     → given_ballot k (history p es) ≡ None
     → (f : ℤ) × (ballot k (history p es) ≡ Fresh f)
-        × (force_of p (own_setpoints p) (frames (history p es)) (cycles_begun (history p es) - 1) k
-            ≡ Some f)
+    × (force_of p (own_setpoints p) (frames (history p es)) (cycles_begun (history p es) - 1) k
+    ≡ Some f)

@@ -12,7 +12,6 @@ pub mod WorldView
 pub mod CanGiveDemand
 pub mod Laws
 pub mod Represents
-
 pub use Rattle.dp_core.specs.Faulty.{AtMostOneFaulty}
 pub use Rattle.dp_core.specs.History.{answer_to_run, answers_to_wire, history, seen_of}
 pub use Rattle.dp_core.specs.Laws.{FreshIsReference, SkewedIsFaulty, TakenIsOwn, TrajectoriesAreReference, TwoHeardAreFresh}

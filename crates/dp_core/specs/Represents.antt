@@ -1,5 +1,5 @@
 -- A world represents a list of events where its parts are what the list's history says.
-use Rattle.std.specs.Prelude.{◌≡◌, ℕ, zero, suc, ◌-◌, ◌^◌, min, List, [], ◌∷◌, drop, length, Option, Some, None, slice_get}
+use Rattle.std.specs.Prelude.{◌≡◌, ℕ, zero, suc, ◌-◌, ◌^◌, min, List, drop, length, Option, Some, None, slice_get}
 use Rattle.circular_buffer.specs.Buffer.{keep_last}
 use Rattle.dp_plant.specs.declared.plant.Plant.{Plant}
 use Rattle.dp_plant.specs.declared.voting.Mode.TheVariants.{Live, Aligning, Off}

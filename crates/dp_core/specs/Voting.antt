@@ -111,5 +111,5 @@ is_delivered k a [] = false
 is_delivered k a (m ∷ h) =
     if is_wire m.event then false
     else ((is_delivery a k m.event
-        && is_ready (message_of k (last_issue a h)) (cycles_begun h) (given_ballot k h))
-        || is_delivered k a h)
+    && is_ready (message_of k (last_issue a h)) (cycles_begun h) (given_ballot k h))
+    || is_delivered k a h)

@@ -115,7 +115,7 @@ impl World {
             → Represents (Run c ∷ es) self.new }
         ensures answer { (es : List Event) → Represents es self.old
             → result ≡ answer_to_run self.old.plant c (history self.old.plant es)
-                (mode c (history self.old.plant es)) }
+            (mode c (history self.old.plant es)) }
         ensures plant { self.new.plant ≡ self.old.plant }
     {
         self.computers[c as usize].run()
@@ -129,7 +129,7 @@ impl World {
             → Represents (Order from voter ∷ es) self.new }
         ensures answer { (es : List Event) → Represents es self.old
             → result ≡ answer_if self.old.plant voter from (history self.old.plant es)
-                (message_of voter (last_issue from (history self.old.plant es))) }
+            (message_of voter (last_issue from (history self.old.plant es))) }
         ensures plant { self.new.plant ≡ self.old.plant }
     {
         let (cycle, force) = self.message(from, voter)?;
@@ -144,7 +144,7 @@ impl World {
             → Represents (Say from voter cycle force ∷ es) self.new }
         ensures answer { (es : List Event) → Represents es self.old
             → result ≡ answer self.old.plant voter from (history self.old.plant es)
-                (record { cycle = cycle; force = force }) }
+            (record { cycle = cycle; force = force }) }
         ensures plant { self.new.plant ≡ self.old.plant }
     {
         self.deliver(from, voter, cycle, force)
@@ -189,7 +189,7 @@ impl World {
     pub fn modes(&self) -> [Mode; 3]
         ensures { (es : List Event) → Represents es self.now
             → result ≡ mode 0 (history self.now.plant es) ∷ mode 1 (history self.now.plant es)
-                ∷ mode 2 (history self.now.plant es) ∷ [] }
+            ∷ mode 2 (history self.now.plant es) ∷ [] }
     {
         [
             self.computers[0].mode(),
@@ -215,6 +215,7 @@ impl World {
     {
         self.computers[c as usize].last()
     }
+
     fn last(&self, c: u8) -> Option<&Issue>
         requires { c < 3 }
         ensures { option_copied result ≡ last_of (slice_get self.now.computers c) }

@@ -1,5 +1,4 @@
 use Rattle.std.proofs.Common.{arith, rules}
-use Rattle.std.proofs.lemmas.Int.{ints}
 use Rattle.dp_plant.specs.BuiltInPlant.{built_in_plant}
 use Rattle.dp_core.proofs.BuiltIn as built_in
 use Rattle.dp_core.proofs.built_in.built_in_plant_is_sound.Goals as goal
