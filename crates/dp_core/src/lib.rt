@@ -17,25 +17,20 @@
 //! cycle, that a live computer that isn't skewed has come to the state of the reference run, one computer alone over all the frames, and
 //! that every fresh ballot is the reference run's force; and, whatever is faulty, whose force it is that a voter takes.
 //!
-//! A plant must be one that a world can be made of: `IsOperable` in `specs/Operable`. [`built_in`] shows it of the built-in plant.
+//! A plant must be one whose numbers are in range: `IsSoundPlant` of dp_plant. [`built_in`] shows of the built-in plant that its thrusters
+//! can give what is demanded.
 #![tactic(auto)]
 
 mod answers;
 pub mod built_in;
 mod computer;
 mod event;
-mod fusion;
-mod issue;
-mod law;
 pub mod laws;
-mod state;
-mod step;
 mod world;
 
 pub use answers::{Heard, Ran};
+pub use dp_machine::{Issue, State};
 pub use dp_plant::{Ballot, Mode, Place};
 pub use dp_voter::Took;
 pub use event::{Event, Seen};
-pub use issue::Issue;
-pub use state::State;
 pub use world::World;
