@@ -6,6 +6,10 @@ use Rattle.std.specs.Str.{bytes_eq}
 abbrev pub Files : Type 0
 Files = List (List ℕ × List ℕ)
 
+-- texts that aren't told
+abbrev pub untold : Option Files
+untold = None
+
 -- the text of a name
 abbrev pub text_named : Files → List ℕ → Option (List ℕ)
 text_named [] name = None
