@@ -1,8 +1,7 @@
 -- Each fresh force of a block is that of the reference run.
-use Rattle.std.proofs.Common.{◌≡◌, ℕ, zero, suc, ◌+◌, ◌<◌, List, [], ◌∷◌, take, drop, Option, Some, None, Ok, Err, Result, slice_get, refl, sym, ap, ◌∙◌, subst, arith}
+use Rattle.std.proofs.Common.{◌≡◌, ℕ, zero, suc, ◌+◌, ◌<◌, List, [], ◌∷◌, take, Option, Some, None, Ok, Err, Result, slice_get, refl, sym, ap, ◌∙◌, subst, arith}
 use Rattle.std.specs.List.{range_with_len}
 use Rattle.std.specs.Option.{option_map}
-use Rattle.std.proofs.lemmas.List.{take-append-drop}
 use Rattle.std.proofs.lemmas.Option.{slice_get-map}
 use Rattle.dp_plant.specs.declared.frames.Frame.{Frame}
 use Rattle.dp_plant.specs.declared.plant.Plant.{Plant}
@@ -10,13 +9,11 @@ use Rattle.dp_plant.specs.declared.voting.Ballot.{Ballot}
 use Rattle.dp_plant.specs.declared.voting.Ballot.TheVariants.{Fresh}
 use Rattle.dp_core.specs.declared.event.Event.{Event}
 use Rattle.dp_core.specs.declared.event.Event.TheVariants.{Wire}
-use Rattle.dp_core.specs.Faulty.{AtMostOneFaulty}
 use Rattle.dp_core.specs.History.{history}
 use Rattle.dp_core.specs.Laws.{FreshIsReference}
 use Rattle.dp_core.specs.Moment.{Moment}
 use Rattle.dp_core.specs.Reference.{IsReferenceForce}
 use Rattle.dp_core.specs.Voting.{ballot, given}
-use Rattle.dp_core.proofs.HistoryLemmas.{faulty-before}
 use Rattle.dp_report.specs.Block.{BlockValue}
 use Rattle.dp_script.specs.declared.event.Event.{Event as Scripted}
 use Rattle.dp_script.specs.Events.{acts_at}
@@ -26,10 +23,9 @@ use Rattle.dp_app.specs.Blocks.{block_at, block_of, blocks}
 use Rattle.dp_app.specs.Headline.{FreshForcesAreReference, TellsReferenceForces}
 use Rattle.dp_app.specs.Outcome.{Play}
 use Rattle.dp_app.proofs.Blocks.{cycled_is}
-use Rattle.dp_app.proofs.Heard.{frames_played}
-use Rattle.dp_app.proofs.LaterEvents.{played_after}
+use Rattle.dp_app.proofs.PlayedFrames.{frames_played}
 use Rattle.dp_app.proofs.Lists.{take_next}
-use Rattle.dp_app.proofs.Plays.{played_append, played_next}
+use Rattle.dp_app.proofs.Plays.{played_next}
 use Rattle.dp_app.proofs.Votes.{given_voted}
 
 -- the cycle that a block tells
@@ -71,14 +67,6 @@ module _ (law : FreshIsReference) (p : Plant) (script : List Scripted) (fs : Lis
   cycle_is : (n : ℕ) (f : Frame) → slice_get fs n ≡ Some f → cycled p script f (played p script (take n fs) []) ≡ played p script (take (n + 1) fs) []
   cycle_is n f at = sym (ap (λ (l : List Frame). played p script l []) (take_next fs n f at) ∙ played_next p script (take n fs) f [])
 
-  one_before : (n : ℕ) → AtMostOneFaulty (history p (played p script fs [])) → AtMostOneFaulty (history p (played p script (take (n + 1) fs) []))
-  one_before n one =
-      let whole : played p script (drop (n + 1) fs) (played p script (take (n + 1) fs) []) ≡ played p script fs [] =
-      sym (played_append p script (take (n + 1) fs) (drop (n + 1) fs) []) ∙ ap (λ (l : List Frame). played p script l []) (take-append-drop (n + 1) fs) in
-      let later = played_after p script (drop (n + 1) fs) (played p script (take (n + 1) fs) []) in
-      faulty-before p later.0 (played p script (take (n + 1) fs) [])
-      (subst (λ (l : List Event). AtMostOneFaulty (history p l)) (sym whole ∙ later.1) one)
-
   given_in : (n k : ℕ) (f : Frame) → k < voters p → slice_get fs n ≡ Some f
       → given k (history p (played p script (take (n + 1) fs) [])) ≡ Some (ballot k (history p (played p script (take (n + 1) fs) [])))
   given_in n k f lt at =
@@ -87,15 +75,15 @@ module _ (law : FreshIsReference) (p : Plant) (script : List Scripted) (fs : Lis
       (cycled_is p script f (played p script (take n fs) []) ∙ cycle_is n f at)
       (given_voted p (voters p) k before lt)
 
-  pub fresh_forces : AtMostOneFaulty (history p (played p script fs [])) → FreshForcesAreReference p fs (blocks p script fs [])
-  fresh_forces one n k b f at fresh =
+  pub fresh_forces : FreshForcesAreReference p script fs (blocks p script fs [])
+  fresh_forces n k b f one at fresh =
       let c = found p script fs [] n b at in
       let es = played p script (take (n + 1) fs) [] in
       let is : b ≡ block_of p c.frame.cycle es = c.is ∙ ap (λ (l : List Event). block_of p c.frame.cycle l) (cycle_is n c.frame c.at) in
       let b_at = ballot_at (voters p) c.frame.cycle k (history p es) (Fresh f) (subst (λ (x : BlockValue). slice_get x.ballots k ≡ Some (Fresh f)) is fresh) in
       let told : given k (history p es) ≡ Some (Fresh f) = given_in n k c.frame b_at.0 c.at ∙ ap Some b_at.1 in
-      subst (λ (l : List Frame). IsReferenceForce p l k f) (frames_played p script (take (n + 1) fs)) (law p es (one_before n one) k f told)
+      subst (λ (l : List Frame). IsReferenceForce p l k f) (frames_played p script (take (n + 1) fs)) (law p es one k f told)
 
-pub tells : (law : FreshIsReference) (asked : Result Play Fault) → TellsReferenceForces asked
-tells law (Ok x) = λ one. fresh_forces law x.plant x.script x.frames one
+pub tells : (law : FreshIsReference) (x : Result Play Fault) → TellsReferenceForces x
+tells law (Ok x) = fresh_forces law x.plant x.script x.frames
 tells law (Err fault) = tt

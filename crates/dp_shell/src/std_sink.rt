@@ -51,3 +51,6 @@ impl<R: Print> Sink for StdSink<'_, R> {
         }
     }
 }
+
+#[cfg(test)]
+mod tests;
