@@ -9,6 +9,7 @@ pub mod Playing
 pub mod Showing
 pub mod ReaderSteps
 pub mod Finishing
+pub mod SoundPlants
 pub mod Records
 pub mod Results
 pub mod Outcomes

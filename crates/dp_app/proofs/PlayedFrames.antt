@@ -6,7 +6,7 @@ use Rattle.dp_plant.specs.declared.plant.Plant.{Plant}
 use Rattle.dp_core.specs.declared.event.Event.{Event}
 use Rattle.dp_core.specs.declared.event.Event.TheVariants as event
 use Rattle.dp_core.specs.History.{history}
-use Rattle.dp_core.specs.Mode.{frames, heard}
+use Rattle.dp_core.specs.Mode.{cycles_begun, frames}
 use Rattle.dp_core.proofs.HistoryLemmas.{frames-order, frames-run, frames-say, frames-skew, frames-stop, frames-vote, frames-wire}
 use Rattle.dp_script.specs.declared.act.Act.{Act}
 use Rattle.dp_script.specs.declared.act.Act.TheVariants.{Run, Order, Orders, Skew, Say, Stop}
@@ -66,5 +66,5 @@ none_heard p = refl
 pub frames_played : (p : Plant) (script : List Scripted) (fs : List Frame) → frames (history p (played p script fs [])) ≡ fs
 frames_played p script fs = frames_after p script fs [] ∙ ap (λ (l : List Frame). l ++ fs) (none_heard p)
 
-pub heard_played : (p : Plant) (script : List Scripted) (fs : List Frame) → heard (history p (played p script fs [])) ≡ length fs
-heard_played p script fs = ap length (frames_played p script fs)
+pub begun_played : (p : Plant) (script : List Scripted) (fs : List Frame) → cycles_begun (history p (played p script fs [])) ≡ length fs
+begun_played p script fs = ap length (frames_played p script fs)

@@ -6,7 +6,7 @@ use Rattle.std.proofs.lemmas.Grind.{flat_map-append}
 use Rattle.dp_plant.specs.declared.frames.Frame.{Frame}
 use Rattle.dp_plant.specs.declared.plant.Plant.{Plant}
 use Rattle.dp_core.specs.History.{history}
-use Rattle.dp_core.specs.Mode.{heard}
+use Rattle.dp_core.specs.Mode.{cycles_begun}
 use Rattle.dp_core.specs.Represents.{Represents}
 use Rattle.dp_frame.specs.declared.feed.Feed.TheVariants.{Closed}
 use Rattle.dp_frame.specs.Feeds.{given}
@@ -17,16 +17,16 @@ use Rattle.dp_app.specs.declared.player.Player.{Player}
 use Rattle.dp_app.specs.Acting.{cycled, played}
 use Rattle.dp_app.specs.Blocks.{block_of, blocks, text_of}
 use Rattle.dp_app.specs.Playing.{HasPlayed, text_played}
-use Rattle.dp_app.proofs.PlayedFrames.{heard_played}
+use Rattle.dp_app.proofs.PlayedFrames.{begun_played}
 use Rattle.dp_app.proofs.Lists.{range_suc}
 use Rattle.dp_app.proofs.Plays.{blocks_append, played_next}
 
 module _ (p : Plant) (script : List Scripted) where
   -- the next frame is that of the cycle that is counted next
-  pub next_cycle : (x : Player) (fs : List Frame) → HasPlayed p script x fs → x.world.heard ≡ x.count
+  pub next_cycle : (x : Player) (fs : List Frame) → HasPlayed p script x fs → x.world.cycles_begun ≡ x.count
   next_cycle x fs h =
-      h.represents.cycles ∙ ap (λ (q : Plant). heard (history q (played p script fs []))) h.world
-      ∙ heard_played p script fs ∙ sym h.count
+      h.represents.cycles ∙ ap (λ (q : Plant). cycles_begun (history q (played p script fs []))) h.world
+      ∙ begun_played p script fs ∙ sym h.count
 
   pub played_more : (x y : Player) (fs : List Frame) (f : Frame) → HasPlayed p script x fs
       → y.plant ≡ x.plant → y.script ≡ x.script → y.world.plant ≡ p

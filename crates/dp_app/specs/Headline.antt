@@ -5,7 +5,8 @@ use Rattle.dp_plant.specs.declared.plant.Plant.{Plant}
 use Rattle.dp_plant.specs.declared.voting.Ballot.TheVariants.{Fresh}
 use Rattle.dp_core.specs.Faulty.{AtMostOneFaulty}
 use Rattle.dp_core.specs.History.{history}
-use Rattle.dp_core.specs.Reference.{IsReferenceForce}
+use Rattle.dp_machine.specs.Reference.{force_of}
+use Rattle.dp_machine.specs.Run.{own_setpoints}
 use Rattle.dp_report.specs.Block.{BlockValue}
 use Rattle.dp_script.specs.declared.event.Event.{Event as Scripted}
 use Rattle.dp_app.specs.declared.fault.Fault.{Fault}
@@ -18,7 +19,7 @@ use Rattle.dp_app.specs.Outcome.{Play}
 abbrev pub FreshForcesAreReference : Plant → List Scripted → List Frame → List BlockValue → Type 0
 FreshForcesAreReference p script fs bs = (n k : ℕ) (b : BlockValue) (f : ℤ)
     → AtMostOneFaulty (history p (played p script (take (n + 1) fs) []))
-    → slice_get bs n ≡ Some b → slice_get b.ballots k ≡ Some (Fresh f) → IsReferenceForce p (take (n + 1) fs) k f
+    → slice_get bs n ≡ Some b → slice_get b.ballots k ≡ Some (Fresh f) → force_of p (own_setpoints p) (take (n + 1) fs) n k ≡ Some f
 
 -- of what is played, if anything is
 abbrev pub TellsReferenceForces : Result Play Fault → Type 0

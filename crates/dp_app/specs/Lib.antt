@@ -5,7 +5,6 @@ pub mod FaultLines
 pub mod Acting
 pub mod Blocks
 pub mod ReaderAnswers
-pub mod Readable
 pub mod Playing
 pub mod Outcome
 pub mod Prefixes
@@ -21,6 +20,5 @@ pub use Rattle.dp_app.specs.Named.{shown_names}
 pub use Rattle.dp_app.specs.Outcome.{IsOfInputs, limit_of, outcome_of, play_of, play_or_fault, play_with, prefix_of, script_fault_of, script_of}
 pub use Rattle.dp_app.specs.Playing.{HasPlayed}
 pub use Rattle.dp_app.specs.Prefixes.{prefix_read}
-pub use Rattle.dp_app.specs.Readable.{IsReadable}
 pub use Rattle.dp_app.specs.Words.{files_of, files_read, names_in}
 pub use Rattle.dp_app.specs.Written.{HasWritten, IsAnnounced}

@@ -1,11 +1,10 @@
 //! One cycle of the world: its frame, the script's acts, the votes, and what is told of it.
-ghost use Rattle.std.specs.Prelude.{◌≡◌, ◌<◌, ◌∷◌, [], List, length, map};
+ghost use Rattle.std.specs.Prelude.{◌≡◌, List, length, map};
 ghost use Rattle.std.specs.List.{range_with_len};
 ghost use Rattle.dp_core.specs.declared.event.Event.{Event};
-ghost use Rattle.dp_core.specs.declared.event.Event.TheVariants.{Vote};
 ghost use Rattle.dp_core.specs.History.{history};
 ghost use Rattle.dp_core.specs.Represents.{Represents};
-ghost use Rattle.dp_core.specs.Voting.{ballot, taken};
+ghost use Rattle.dp_core.specs.Voting.{ballot, taken_forces};
 ghost use Rattle.dp_plant.specs.FrameRanges.{IsFrameWithin};
 ghost use Rattle.dp_report.specs.Block.{block_text};
 ghost use Rattle.dp_app.specs.Acting.{cycled, voted, voters};
@@ -13,24 +12,37 @@ ghost use Rattle.dp_app.specs.Blocks.{block_of};
 
 use crate::acting::{perform_all, voters_of};
 use arrayvec::ArrayVec;
-use dp_core::{Event, Seen, World};
+use dp_core::World;
 use dp_plant::{Ballot, Frame, Plant};
 use dp_report::{Block, write_block};
 use dp_script::Script;
 
-/// The ballot of a voter in this cycle.
-fn vote(world: &mut World, plant: &Plant, k: u8) -> Ballot
-    requires voter { k < voters plant.now }
+/// A cycle: its frame is heard by all computers, the script's acts of it are done, each voter votes, and `into` holds its text.
+pub fn cycle(
+    world: &mut World,
+    plant: &Plant,
+    script: &Script,
+    frame: &Frame,
+    into: &mut ArrayVec<u8, 4096>,
+)
+    requires next { frame.now.cycle ≡ world.old.cycles_begun }
+    requires within { IsFrameWithin frame.now }
     requires plant { world.old.plant ≡ plant.now }
-    ensures represents { (es : List Event) → Represents es world.old → Represents (Vote k ∷ es) world.new }
-    ensures ballot { (es : List Event) → Represents es world.old → result ≡ ballot k (history plant.now es) }
+    ensures represents { (es : List Event) → Represents es world.old → Represents (cycled plant.now script.now frame.now es) world.new }
+    ensures block { (es : List Event) → Represents es world.old
+        → into.new.items ≡ block_text (block_of plant.now frame.now.cycle (cycled plant.now script.now frame.now es)) }
     ensures plant { world.new.plant ≡ plant.now }
 {
-    match world.apply(&Event::Vote { voter: k }) {
-        Seen::Voted(ballot) => ballot,
-        // no other answer comes to a vote
-        _ => Ballot::Zero,
-    }
+    world.wire(frame);
+    perform_all(world, plant, script, frame.cycle);
+    let ballots = vote_all(world, plant);
+    let block = Block {
+        cycle: frame.cycle,
+        modes: world.modes(),
+        ballots,
+        held: held_all(world, plant),
+    };
+    write_block(&block, into);
 }
 
 /// The ballots of all voters in this cycle.
@@ -44,7 +56,7 @@ fn vote_all(world: &mut World, plant: &Plant) -> ArrayVec<Ballot, 12>
 {
     let mut ballots = ArrayVec::new();
     for k in 0..voters_of(plant) {
-        ballots.push(vote(world, plant, k));
+        ballots.push(world.vote(k));
     }
     ballots
 }
@@ -53,7 +65,7 @@ fn vote_all(world: &mut World, plant: &Plant) -> ArrayVec<Ballot, 12>
 fn held_all(world: &World, plant: &Plant) -> ArrayVec<[Option<i64>; 3], 12>
     requires { world.now.plant ≡ plant.now }
     ensures held { (es : List Event) → Represents es world.now → result.items
-        ≡ map (λ k. taken k 0 (history plant.now es) ∷ taken k 1 (history plant.now es) ∷ taken k 2 (history plant.now es) ∷ []) (range_with_len 0 (voters plant.now)) }
+        ≡ map (λ k. taken_forces k (history plant.now es)) (range_with_len 0 (voters plant.now)) }
     ensures count { length result.items ≡ voters plant.now }
 {
     let mut orders = ArrayVec::new();
@@ -61,32 +73,4 @@ fn held_all(world: &World, plant: &Plant) -> ArrayVec<[Option<i64>; 3], 12>
         orders.push(world.held(k));
     }
     orders
-}
-
-/// A cycle: its frame is heard by all computers, the script's acts of it are done, each voter votes, and `into` holds its text.
-pub fn cycle(
-    world: &mut World,
-    plant: &Plant,
-    script: &Script,
-    frame: &Frame,
-    into: &mut ArrayVec<u8, 4096>,
-)
-    requires next { frame.now.cycle ≡ world.old.heard }
-    requires within { IsFrameWithin frame.now }
-    requires plant { world.old.plant ≡ plant.now }
-    ensures represents { (es : List Event) → Represents es world.old → Represents (cycled plant.now script.now frame.now es) world.new }
-    ensures block { (es : List Event) → Represents es world.old
-        → into.new.items ≡ block_text (block_of plant.now frame.now.cycle (cycled plant.now script.now frame.now es)) }
-    ensures plant { world.new.plant ≡ plant.now }
-{
-    world.apply(&Event::Wire(*frame));
-    perform_all(world, plant, script, frame.cycle);
-    let ballots = vote_all(world, plant);
-    let block = Block {
-        cycle: frame.cycle,
-        modes: world.modes(),
-        ballots,
-        held: held_all(world, plant),
-    };
-    write_block(&block, into);
 }

@@ -3,8 +3,9 @@ ghost use Rattle.std.specs.Prelude.{◌≡◌, ◌≢◌, ◌⊎◌, ◌≤◌, 
 ghost use Rattle.dp_shell.specs.{NoneFalls, OthersStay, texts_of, text_named};
 ghost use Rattle.dp_core.specs.Represents.{Represents};
 ghost use Rattle.dp_plant.specs.BuiltInPlant.{built_in_plant};
+ghost use Rattle.dp_plant.specs.SoundPlant.{IsSoundPlant};
 ghost use Rattle.dp_app.specs.declared.fault.File.{File as FileKind};
-ghost use Rattle.dp_app.specs.{HasPlayed, IsOfInputs, IsReadable, OthersKeep, ReadFailed, RoseAt, fault_status};
+ghost use Rattle.dp_app.specs.{HasPlayed, IsOfInputs, OthersKeep, ReadFailed, RoseAt, fault_status};
 ghost use Rattle.dp_app.specs.{files_of, files_read, limit_of, names_in, play_of, play_or_fault, play_with};
 ghost use Rattle.dp_app.specs.{prefix_of, prefix_read, script_fault_of, script_of, shown_names};
 
@@ -13,7 +14,7 @@ use crate::player::Player;
 use crate::words::{Names, names_in};
 use arrayvec::ArrayVec;
 use dp_core::World;
-use dp_core::built_in::built_in_plant_is_operable;
+use dp_core::built_in::built_in_plant_is_sound;
 use dp_plant::{Plant, p0};
 use dp_script::{Script, ScriptFault};
 use dp_shell::{FilePart, ReadTrouble, Shelf, read_whole};
@@ -36,7 +37,7 @@ pub struct Inputs {
 pub fn gather<F: Shelf>(alloc: Global, words: &[&str], shelf: &mut F) -> Result<Inputs, Fault>
     ensures ok { IfOk result (λ i. IfSome (F.files shelf.old) (λ files. play_or_fault (texts_of words.now) files
         ≡ Ok (play_of i.player.plant i.player.script (prefix_read i.record)))) }
-    ensures readable { IfOk result (λ i. IsReadable i.player.plant) }
+    ensures sound { IfOk result (λ i. IsSoundPlant i.player.plant) }
     ensures played { IfOk result (λ i. HasPlayed i.player.plant i.player.script i.player []) }
     ensures size { IfOk result (λ i. length i.record.text.items ≤ limit_of File.Record) }
 
@@ -64,7 +65,7 @@ pub fn gather<F: Shelf>(alloc: Global, words: &[&str], shelf: &mut F) -> Result<
 fn gather_named<F: Shelf>(alloc: Global, shelf: &mut F, names: &Names) -> Result<Inputs, Fault>
     ensures ok { IfOk result (λ i. IfSome (F.files shelf.old) (λ files. play_with files (shown_names names.now)
         ≡ Ok (play_of i.player.plant i.player.script (prefix_read i.record)))) }
-    ensures readable { IfOk result (λ i. IsReadable i.player.plant) }
+    ensures sound { IfOk result (λ i. IsSoundPlant i.player.plant) }
     ensures played { IfOk result (λ i. HasPlayed i.player.plant i.player.script i.player []) }
     ensures size { IfOk result (λ i. length i.record.text.items ≤ limit_of File.Record) }
     ensures err { IfErr result (λ fault. IsOfInputs (fault_status fault)
@@ -139,7 +140,7 @@ fn built_in_world(alloc: Global) -> Result<World, Fault>
     ensures represents { IfOk result (λ world. Represents [] world) }
     ensures other { IfErr result (λ fault. fault ≡ Fault.Memory) }
 {
-    built_in_plant_is_operable();
+    built_in_plant_is_sound();
     World::new(alloc, &p0()).map_err(|_| Fault::Memory)
 }
 
@@ -159,11 +160,11 @@ fn player_of(plant: Plant, script: Script, world: World) -> Player
     }
 }
 
-/// The built-in plant, whose record can be read.
-#[tactic(auto, unfolding(dp_plant::specs::BuiltInPlant::built_in_plant))]
+/// The built-in plant.
 fn built_in() -> Plant
     ensures value { result ≡ built_in_plant }
-    ensures readable { IsReadable result }
+    ensures sound { IsSoundPlant result }
 {
+    built_in_plant_is_sound();
     p0()
 }

@@ -1,10 +1,10 @@
 //! A replay: the blocks of a record's cycles, and the last line.
 ghost use Rattle.std.specs.Prelude.{◌≡◌, ◌≢◌, ◌≤◌, ◌^◌, [], IfOk, OnErr, OnOk, length};
 ghost use Rattle.dp_shell.specs.Faults.{HasWriteCause, Rose};
+ghost use Rattle.dp_plant.specs.SoundPlant.{IsSoundPlant};
 ghost use Rattle.dp_app.specs.Outcome.{IsOfInputs, IsOfRecord, play_of, played_out};
 ghost use Rattle.dp_app.specs.Playing.{HasPlayed, Shows, StopsShowing};
 ghost use Rattle.dp_app.specs.Prefixes.{prefix_read};
-ghost use Rattle.dp_app.specs.Readable.{IsReadable};
 ghost use Rattle.dp_app.specs.Written.{HasWritten, IsAnnounced, NoReadFailed};
 
 use crate::Status;
@@ -18,7 +18,7 @@ use dp_trig::Trig;
 
 /// Replays a record, of which the text may go on past its limit.
 pub fn replay<K: Sink>(player: &mut Player, out: &mut K, file: &FilePart) -> Status
-    requires readable { IsReadable player.old.plant }
+    requires sound { IsSoundPlant player.old.plant }
     requires played { HasPlayed player.old.plant player.old.script player.old [] }
     requires size { length file.now.text.items ≤ 2 ^ 36 }
     ensures status { IsOfInputs result
@@ -42,7 +42,7 @@ fn play_record<K: Sink>(
     out: &mut K,
     file: &FilePart,
 ) -> Result<Option<Fault>, Trouble>
-    requires readable { IsReadable player.old.plant }
+    requires sound { IsSoundPlant player.old.plant }
     requires played { HasPlayed player.old.plant player.old.script player.old [] }
     requires size { length file.now.text.items ≤ 2 ^ 36 }
     ensures fault { IfOk result (λ fault. fault

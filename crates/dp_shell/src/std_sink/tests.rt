@@ -2,6 +2,7 @@ use super::*;
 use std::fmt::Display;
 
 /// An output that takes at most so many bytes at once, or fails.
+#[derive(Drop)]
 struct Narrow {
     most: Option<usize>,
 }
