@@ -28,7 +28,8 @@ block_of p cycle es = block_at (voters p) cycle (history p es)
 -- the blocks of one cycle after another, after these events
 unfoldable pub blocks : Plant → List Scripted → List Frame → List Event → List BlockValue
 blocks p script [] es = []
-blocks p script (f ∷ fs) es = block_of p f.cycle (cycled p script f es) ∷ blocks p script fs (cycled p script f es)
+blocks p script (f ∷ fs) es = block_of p f.cycle (cycled p script f es)
+    ∷ blocks p script fs (cycled p script f es)
 
 -- their text
 abbrev pub text_of : List BlockValue → List ℕ

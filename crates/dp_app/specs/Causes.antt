@@ -40,4 +40,5 @@ IsNoneOf (f ∷ fs) name = (name ≢ f.name) × IsNoneOf fs name
 
 -- each other name that is counted apart keeps its number
 abbrev pub OthersKeep : (List ℕ → Bool) → List FileNamed → (List ℕ → ℕ) → (List ℕ → ℕ) → Type 0
-OthersKeep apart fs before now = (other : List ℕ) → IsTrue (apart other) → IsNoneOf fs other → now other ≡ before other
+OthersKeep apart fs before now =
+    (other : List ℕ) → IsTrue (apart other) → IsNoneOf fs other → now other ≡ before other

@@ -28,7 +28,8 @@ abbrev pub line_kind_word : LineFault → List ℕ
 line_kind_word LongLine = codes "long"
 line_kind_word NoTime = codes "notime"
 line_kind_word BadTime = codes "badtime"
-line_kind_word (TimeBack before now) = codes "back " ++ (decimal before ++ (codes " " ++ decimal now))
+line_kind_word (TimeBack before now) =
+    codes "back " ++ (decimal before ++ (codes " " ++ decimal now))
 line_kind_word NoWire = codes "nowire"
 line_kind_word UnknownWire = codes "unknown"
 
@@ -39,7 +40,8 @@ file_line what file = codes "fault " ++ (what ++ (codes " " ++ (file_word file +
 -- a fault that names a line: `fault`, the file's word, the line's number, what is wrong with it
 abbrev pub named_line : File → ℕ → List ℕ → List ℕ
 named_line file number kind =
-    codes "fault " ++ (file_word file ++ (codes " " ++ (decimal number ++ (codes " " ++ (kind ++ codes "\n")))))
+    codes "fault " ++ (file_word file
+        ++ (codes " " ++ (decimal number ++ (codes " " ++ (kind ++ codes "\n")))))
 
 unfoldable pub fault_line : Fault → List ℕ
 fault_line Usage = codes "fault usage\n"

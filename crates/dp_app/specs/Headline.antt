@@ -19,9 +19,11 @@ use Rattle.dp_app.specs.Outcome.{Play}
 abbrev pub FreshForcesAreReference : Plant → List Scripted → List Frame → List BlockValue → Type 0
 FreshForcesAreReference p script fs bs = (n k : ℕ) (b : BlockValue) (f : ℤ)
     → AtMostOneFaulty (history p (played p script (take (n + 1) fs) []))
-    → slice_get bs n ≡ Some b → slice_get b.ballots k ≡ Some (Fresh f) → force_of p (own_setpoints p) (take (n + 1) fs) n k ≡ Some f
+    → slice_get bs n ≡ Some b → slice_get b.ballots k ≡ Some (Fresh f)
+        → force_of p (own_setpoints p) (take (n + 1) fs) n k ≡ Some f
 
 -- of what is played, if anything is
 abbrev pub TellsReferenceForces : Result Play Fault → Type 0
-TellsReferenceForces (Ok x) = FreshForcesAreReference x.plant x.script x.frames (blocks x.plant x.script x.frames [])
+TellsReferenceForces (Ok x) = FreshForcesAreReference x.plant x.script x.frames
+    (blocks x.plant x.script x.frames [])
 TellsReferenceForces (Err fault) = Unit {0}

@@ -102,7 +102,8 @@ unfoldable pub play_of : Plant → List Scripted → Prefix → Play
 play_of p script f =
     let s = settings_of p in
     let fault = record_fault (first_refusal s (lines_of f)) f.goes_on in
-    record { plant = p; script = script; frames = frames_played s (lines_of f) fault; fault = fault }
+    record { plant = p; script = script; frames = frames_played s
+        (lines_of f) fault; fault = fault }
 
 -- the most bytes of a record, 2^36
 abbrev pub record_limit : ℕ
@@ -138,7 +139,9 @@ refused_or None later = later
 
 -- by the script's text, or without one; the script comes before the record
 abbrev pub with_script : Option (List ℕ) → Option (List ℕ) → Result Play Fault
-with_script (Some text) record_text = refused_or (script_fault_of (prefix_of script_limit text)) (with_record (script_of (prefix_of script_limit text)) record_text)
+with_script (Some text) record_text =
+    refused_or (script_fault_of (prefix_of script_limit text))
+        (with_record (script_of (prefix_of script_limit text)) record_text)
 with_script None record_text = Err (Read Script)
 
 -- ---- all of it
@@ -150,7 +153,8 @@ limit_of Record = record_limit
 
 -- what the files of these names play, or the fault that they are refused with
 abbrev pub play_with : Files → Names → Result Play Fault
-play_with files names = with_script (text_named files names.script_name) (text_named files names.record_name)
+play_with files names = with_script (text_named files names.script_name)
+    (text_named files names.record_name)
 
 abbrev pub with_names : Files → Option Names → Result Play Fault
 with_names files (Some names) = play_with files names

@@ -11,7 +11,8 @@ use Rattle.dp_app.specs.Acting.{played}
 use Rattle.dp_app.specs.Blocks.{blocks, text_of}
 
 -- the player has played these frames on this plant with this script, one cycle each
-pub record HasPlayed (p : Plant) (script : List Scripted) (x : Player) (fs : List Frame) : Type 0 where
+pub record HasPlayed (p : Plant) (script : List Scripted) (x : Player)
+    (fs : List Frame) : Type 0 where
   pub plant : x.plant ≡ p
   pub script_is : x.script ≡ script
   pub world : x.world.plant ≡ p
@@ -27,16 +28,22 @@ abbrev pub text_played : Plant → List Scripted → List Frame → List ℕ
 text_played p script fs = text_of (blocks p script fs [])
 
 -- the player has played these frames, and the sink has taken their text since it had taken `start`
-pub record HasShown (p : Plant) (script : List Scripted) (start taken : Option (List ℕ)) (x : Player) (fs : List Frame) : Type 0 where
+pub record HasShown (p : Plant) (script : List Scripted) (start taken : Option (List ℕ))
+    (x : Player) (fs : List Frame) : Type 0 where
   pub frames : HasPlayed p script x fs
   pub text : Appends start taken (text_played p script fs)
 
 -- who had played and shown the frames `before` has played and shown `after`
-abbrev pub Shows : Player → Player → Option (List ℕ) → Option (List ℕ) → List Frame → List Frame → Type 0
-Shows old new old_taken new_taken before after = (p : Plant) (script : List Scripted) (start : Option (List ℕ))
+abbrev pub Shows : Player → Player → Option (List ℕ) → Option (List ℕ) → List Frame → List Frame
+    → Type 0
+Shows old new old_taken new_taken before after =
+    (p : Plant) (script : List Scripted) (start : Option (List ℕ))
     → HasShown p script start old_taken old before → HasShown p script start new_taken new after
 
 -- who had played and shown the frames `before` stopped while the text of `after` was written
-abbrev pub StopsShowing : Player → Option (List ℕ) → Option (List ℕ) → List Frame → List Frame → Type 0
-StopsShowing old old_taken new_taken before after = (p : Plant) (script : List Scripted) (start : Option (List ℕ))
-    → HasShown p script start old_taken old before → AppendsCut start new_taken (text_played p script after)
+abbrev pub StopsShowing : Player → Option (List ℕ) → Option (List ℕ) → List Frame → List Frame
+    → Type 0
+StopsShowing old old_taken new_taken before after =
+    (p : Plant) (script : List Scripted) (start : Option (List ℕ))
+    → HasShown p script start old_taken old before
+        → AppendsCut start new_taken (text_played p script after)

@@ -15,7 +15,8 @@ fault_in feed.More = None
 
 -- the frame that it closes, if any, is that of cycle n, and in range with the empty ones that follow
 abbrev pub IsNext : ℕ → Feed → Type 0
-IsNext n (feed.Closed frame empty) = (frame.cycle ≡ n) × IsFrameWithin frame × (frame.cycle + empty < 2 ^ 20)
+IsNext n (feed.Closed frame empty) =
+    (frame.cycle ≡ n) × IsFrameWithin frame × (frame.cycle + empty < 2 ^ 20)
 IsNext n (feed.Fault line kind) = ⊤
 IsNext n (feed.TooMany line cycle) = ⊤
 IsNext n feed.More = ⊤

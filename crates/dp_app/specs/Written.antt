@@ -21,15 +21,20 @@ MayBeTold failed (LongCycles cycle) = ⊥
 
 -- the line of such a fault was being written, after a prefix of the text: a prefix of it was taken, and not all of it
 abbrev pub StopsInLine : (File → Type 0) → Option (List ℕ) → Option (List ℕ) → List ℕ → Type 0
-StopsInLine failed old new text = (fault : Fault) × MayBeTold failed fault × CutInLine old new text (fault_line fault)
+StopsInLine failed old new text =
+    (fault : Fault) × MayBeTold failed fault × CutInLine old new text (fault_line fault)
 
 -- a status of the words and files: all of the outcome's text. A failed read: its file's line alone. A failed write: the text was being
 -- written, or such a line. Want of memory: the same, or all of the line that says so
-abbrev pub HasWritten : (File → Type 0) → List ℕ → Status → Option (List ℕ) → Option (List ℕ) → Type 0
-HasWritten failed text status.ReadFault old new = (file : File) × failed file × Appends old new (fault_line (Read file))
-HasWritten failed text status.WriteFault old new = AppendsCut old new text ⊎ StopsInLine failed old new text
+abbrev pub HasWritten : (File → Type 0) → List ℕ → Status → Option (List ℕ) → Option (List ℕ)
+    → Type 0
+HasWritten failed text status.ReadFault old new =
+    (file : File) × failed file × Appends old new (fault_line (Read file))
+HasWritten failed text status.WriteFault old new =
+    AppendsCut old new text ⊎ StopsInLine failed old new text
 HasWritten failed text status.Memory old new =
-    AppendsCut old new text ⊎ StopsInLine failed old new text ⊎ EndsWithLine old new text (fault_line Memory)
+    AppendsCut old new text ⊎ StopsInLine failed old new text
+        ⊎ EndsWithLine old new text (fault_line Memory)
 HasWritten failed text status.Ok old new = Appends old new text
 HasWritten failed text status.Usage old new = Appends old new text
 HasWritten failed text status.BadPlant old new = Appends old new text

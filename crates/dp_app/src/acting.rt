@@ -13,7 +13,8 @@ use dp_script::{Act, Script};
 /// The script's acts of a cycle are done, one after another.
 pub fn perform_all(world: &mut World, plant: &Plant, script: &Script, cycle: u64)
     requires { world.old.plant ≡ plant.now }
-    ensures represents { (es : List Event) → Represents es world.old → Represents (all_acted plant.now cycle (acts_at cycle script.now) es) world.new }
+    ensures represents { (es : List Event) → Represents es world.old
+        → Represents (all_acted plant.now cycle (acts_at cycle script.now) es) world.new }
     ensures plant { world.new.plant ≡ plant.now }
 {
     for i in 0..script.len(cycle) {
@@ -26,7 +27,8 @@ pub fn perform_all(world: &mut World, plant: &Plant, script: &Script, cycle: u64
 fn perform(world: &mut World, plant: &Plant, cycle: u64, act: Act)
     requires plant { world.old.plant ≡ plant.now }
     requires within { IsWithin act }
-    ensures represents { (es : List Event) → Represents es world.old → Represents (acted plant.now cycle act es) world.new }
+    ensures represents { (es : List Event) → Represents es world.old
+        → Represents (acted plant.now cycle act es) world.new }
     ensures plant { world.new.plant ≡ plant.now }
 {
     match act {
@@ -58,7 +60,8 @@ fn perform(world: &mut World, plant: &Plant, cycle: u64, act: Act)
 fn order_all(world: &mut World, plant: &Plant, c: u8)
     requires computer { c < 3 }
     requires plant { world.old.plant ≡ plant.now }
-    ensures represents { (es : List Event) → Represents es world.old → Represents (ordered c (voters plant.now) es) world.new }
+    ensures represents { (es : List Event) → Represents es world.old
+        → Represents (ordered c (voters plant.now) es) world.new }
     ensures plant { world.new.plant ≡ plant.now }
 {
     for k in 0..voters_of(plant) {

@@ -28,9 +28,11 @@ pub fn cycle(
     requires next { frame.now.cycle ≡ world.old.cycles_begun }
     requires within { IsFrameWithin frame.now }
     requires plant { world.old.plant ≡ plant.now }
-    ensures represents { (es : List Event) → Represents es world.old → Represents (cycled plant.now script.now frame.now es) world.new }
+    ensures represents { (es : List Event) → Represents es world.old
+        → Represents (cycled plant.now script.now frame.now es) world.new }
     ensures block { (es : List Event) → Represents es world.old
-        → into.new.items ≡ block_text (block_of plant.now frame.now.cycle (cycled plant.now script.now frame.now es)) }
+        → into.new.items ≡ block_text (block_of plant.now frame.now.cycle
+            (cycled plant.now script.now frame.now es)) }
     ensures plant { world.new.plant ≡ plant.now }
 {
     world.wire(frame);
@@ -48,9 +50,11 @@ pub fn cycle(
 /// The ballots of all voters in this cycle.
 fn vote_all(world: &mut World, plant: &Plant) -> ArrayVec<Ballot, 12>
     requires { world.old.plant ≡ plant.now }
-    ensures represents { (es : List Event) → Represents es world.old → Represents (voted (voters plant.now) es) world.new }
+    ensures represents { (es : List Event) → Represents es world.old
+        → Represents (voted (voters plant.now) es) world.new }
     ensures ballots { (es : List Event) → Represents es world.old
-        → result.items ≡ map (λ k. ballot k (history plant.now (voted (voters plant.now) es))) (range_with_len 0 (voters plant.now)) }
+        → result.items ≡ map (λ k. ballot k (history plant.now (voted (voters plant.now) es)))
+            (range_with_len 0 (voters plant.now)) }
     ensures count { length result.items ≡ voters plant.now }
     ensures plant { world.new.plant ≡ plant.now }
 {

@@ -17,9 +17,11 @@ use dp_text::{append, append_decimal};
 pub fn finish<K: Sink>(out: &mut K, fault: Option<Fault>, count: u64) -> Status
     requires { IsOfRecord fault }
     ensures status { IsOfInputs result → result ≡ last_status fault }
-    ensures written { (start : Option (List ℕ)) (text : List ℕ) → Appends start (K.taken out.old) text
+    ensures written { (start : Option (List ℕ)) (text : List ℕ)
+        → Appends start (K.taken out.old) text
         → HasWritten NoReadFailed (text ++ last_line count fault) result start (K.taken out.new) }
-    ensures announced { (start : Option (List ℕ)) (text : List ℕ) → Appends start (K.taken out.old) text
+    ensures announced { (start : Option (List ℕ)) (text : List ℕ)
+        → Appends start (K.taken out.old) text
         → IsAnnounced result start (K.taken out.new) }
     ensures write { result ≡ Status.WriteFault → Rose (K.faults out.old) (K.faults out.new) }
     ensures read { (result ≢ Status.ReadFault) × (result ≢ Status.Usage) }
@@ -32,8 +34,10 @@ pub fn finish<K: Sink>(out: &mut K, fault: Option<Fault>, count: u64) -> Status
 
 /// Writes the number of cycles.
 fn write_end<K: Sink>(out: &mut K, count: u64) -> Status
-    ensures answers { (result ≡ Status.Ok) ⊎ (result ≡ Status.WriteFault) ⊎ (result ≡ Status.Memory) }
-    ensures written { (start : Option (List ℕ)) (text : List ℕ) → Appends start (K.taken out.old) text
+    ensures answers { (result ≡ Status.Ok) ⊎ (result ≡ Status.WriteFault)
+        ⊎ (result ≡ Status.Memory) }
+    ensures written { (start : Option (List ℕ)) (text : List ℕ)
+        → Appends start (K.taken out.old) text
         → HasWritten NoReadFailed (text ++ end_line count) result start (K.taken out.new) }
     ensures write { result ≡ Status.WriteFault → Rose (K.faults out.old) (K.faults out.new) }
 {
@@ -46,7 +50,8 @@ fn write_end<K: Sink>(out: &mut K, count: u64) -> Status
 /// Ends a run whose output could not be written: where memory was wanted, a line says so.
 pub fn stop<K: Sink>(out: &mut K, trouble: Trouble) -> Status
     ensures answers { (result ≡ Status.WriteFault) ⊎ (result ≡ Status.Memory) }
-    ensures written { (start : Option (List ℕ)) (text : List ℕ) → AppendsCut start (K.taken out.old) text
+    ensures written { (start : Option (List ℕ)) (text : List ℕ)
+        → AppendsCut start (K.taken out.old) text
         → HasWritten NoReadFailed text result start (K.taken out.new) }
     ensures write { result ≡ Status.WriteFault
         → (trouble ≡ Trouble.Failed) ⊎ Rose (K.faults out.old) (K.faults out.new) }
@@ -60,7 +65,8 @@ pub fn stop<K: Sink>(out: &mut K, trouble: Trouble) -> Status
 
 /// Writes a fault's line, and answers its status, or that of a failed write.
 pub fn announce<K: Sink>(out: &mut K, fault: Fault) -> Status
-    ensures ends { LineEnds (fault_status fault) (fault_line fault) (K.taken out.old) (K.taken out.new) result }
+    ensures ends { LineEnds (fault_status fault) (fault_line fault) (K.taken out.old)
+        (K.taken out.new) result }
     ensures write { result ≡ Status.WriteFault → Rose (K.faults out.old) (K.faults out.new) }
     ensures later { K.faults out.old ≤ K.faults out.new }
 {

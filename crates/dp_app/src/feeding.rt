@@ -30,7 +30,8 @@ pub fn play_text<K: Sink>(
     ensures fault { (before : List ℕ) → Represents lines.old before
         → first_refusal (lines.old.progress.settings) (ended_lines before) ≡ None
         → IfOk result (λ fault. fault
-            ≡ record_fault (first_refusal (lines.old.progress.settings) (ended_lines (before ++ text.now))) false) }
+            ≡ record_fault (first_refusal (lines.old.progress.settings)
+                (ended_lines (before ++ text.now))) false) }
     ensures ok { (before : List ℕ) → Represents lines.old before
         → first_refusal (lines.old.progress.settings) (ended_lines before) ≡ None
         → OnOk result (Shows player.old player.new (K.taken out.old) (K.taken out.new)
@@ -46,7 +47,8 @@ pub fn play_text<K: Sink>(
     // Where there is no fault the record can go on.
     ensures represents { (before : List ℕ) → Represents lines.old before
         → IfOk result (λ fault. fault ≡ None → Represents lines.new (before ++ text.now)) }
-    ensures next { IfOk result (λ fault. fault ≡ None → lines.new.progress.kept.cycle ≡ player.new.count) }
+    ensures next { IfOk result (λ fault. fault ≡ None → lines.new.progress.kept.cycle
+        ≡ player.new.count) }
     ensures open { IsOpen lines.new }
     ensures settings { lines.new.progress.settings ≡ lines.old.progress.settings }
     ensures playing { IsPlaying player.new }
@@ -74,7 +76,8 @@ fn play_byte<K: Sink>(
     requires open { IsOpen lines.old }
     requires few { lines.old.bytes < 2 ^ 40 }
     ensures fault { (text : List ℕ) → Represents lines.old text
-        → IfOk result (λ fault. fault ≡ fault_in (answer_to (lines.old.progress.settings) text byte)) }
+        → IfOk result (λ fault. fault ≡ fault_in
+            (answer_to (lines.old.progress.settings) text byte)) }
     ensures ok { (text : List ℕ) → Represents lines.old text → (fs : List Frame)
         → OnOk result (Shows player.old player.new (K.taken out.old) (K.taken out.new)
             fs (fs ++ given (answer_to (lines.old.progress.settings) text byte))) }
@@ -82,7 +85,8 @@ fn play_byte<K: Sink>(
         → OnErr result (StopsShowing player.old (K.taken out.old) (K.taken out.new)
             fs (fs ++ given (answer_to (lines.old.progress.settings) text byte))) }
     ensures cause { HasWriteCause (K.faults out.old) (K.faults out.new) result }
-    ensures represents { (text : List ℕ) → Represents lines.old text → Represents lines.new (text ++ byte ∷ []) }
+    ensures represents { (text : List ℕ) → Represents lines.old text
+        → Represents lines.new (text ++ byte ∷ []) }
     ensures next { OnOk result (lines.new.progress.kept.cycle ≡ player.new.count) }
     ensures bytes { lines.new.bytes ≡ lines.old.bytes + 1 }
     ensures open_still { IsOpen lines.new }

@@ -35,7 +35,8 @@ pub struct Inputs {
 
 /// Reads all that the words name, or says why it is refused.
 pub fn gather<F: Shelf>(alloc: Global, words: &[&str], shelf: &mut F) -> Result<Inputs, Fault>
-    ensures ok { IfOk result (λ i. IfSome (F.files shelf.old) (λ files. play_or_fault (texts_of words.now) files
+    ensures ok { IfOk result (λ i. IfSome (F.files shelf.old)
+        (λ files. play_or_fault (texts_of words.now) files
         ≡ Ok (play_of i.player.plant i.player.script (prefix_read i.record)))) }
     ensures sound { IfOk result (λ i. IsSoundPlant i.player.plant) }
     ensures played { IfOk result (λ i. HasPlayed i.player.plant i.player.script i.player []) }
@@ -43,13 +44,16 @@ pub fn gather<F: Shelf>(alloc: Global, words: &[&str], shelf: &mut F) -> Result<
 
     // A refusal that words and files give is theirs.
     ensures err { IfErr result (λ fault. IsOfInputs (fault_status fault)
-        → IfSome (F.files shelf.old) (λ files. play_or_fault (texts_of words.now) files ≡ Err fault)) }
+        → IfSome (F.files shelf.old) (λ files. play_or_fault (texts_of words.now) files
+            ≡ Err fault)) }
     ensures usage { IsErrOf result Fault.Usage → IsNone (names_in (texts_of words.now)) }
     ensures no_command { IsNone (names_in (texts_of words.now)) → IsErrOf result Fault.Usage }
 
     // A fault of reading comes only where it was counted under the file's name, after all before it had passed.
-    ensures read { (file : FileKind) → IsErrOf result (Fault.Read file) → ReadFailed (F.files shelf.old)
-        (F.faults shelf.old) (F.faults shelf.new) (files_read (names_in (texts_of words.now))) file }
+    ensures read { (file : FileKind) → IsErrOf result (Fault.Read file)
+        → ReadFailed (F.files shelf.old)
+        (F.faults shelf.old) (F.faults shelf.new)
+            (files_read (names_in (texts_of words.now))) file }
 
     ensures files { F.files shelf.new ≡ F.files shelf.old }
     ensures others { OthersKeep (F.apart shelf.old) (files_read (names_in (texts_of words.now)))
@@ -63,15 +67,18 @@ pub fn gather<F: Shelf>(alloc: Global, words: &[&str], shelf: &mut F) -> Result<
 
 /// Reads the files of a replay, the script before the record.
 fn gather_named<F: Shelf>(alloc: Global, shelf: &mut F, names: &Names) -> Result<Inputs, Fault>
-    ensures ok { IfOk result (λ i. IfSome (F.files shelf.old) (λ files. play_with files (shown_names names.now)
+    ensures ok { IfOk result (λ i. IfSome (F.files shelf.old)
+        (λ files. play_with files (shown_names names.now)
         ≡ Ok (play_of i.player.plant i.player.script (prefix_read i.record)))) }
     ensures sound { IfOk result (λ i. IsSoundPlant i.player.plant) }
     ensures played { IfOk result (λ i. HasPlayed i.player.plant i.player.script i.player []) }
     ensures size { IfOk result (λ i. length i.record.text.items ≤ limit_of File.Record) }
     ensures err { IfErr result (λ fault. IsOfInputs (fault_status fault)
-        → IfSome (F.files shelf.old) (λ files. play_with files (shown_names names.now) ≡ Err fault)) }
+        → IfSome (F.files shelf.old) (λ files. play_with files (shown_names names.now)
+            ≡ Err fault)) }
     ensures command { IfErr result (λ fault. fault ≢ Fault.Usage) }
-    ensures read { (file : FileKind) → IsErrOf result (Fault.Read file) → ReadFailed (F.files shelf.old)
+    ensures read { (file : FileKind) → IsErrOf result (Fault.Read file)
+        → ReadFailed (F.files shelf.old)
         (F.faults shelf.old) (F.faults shelf.new) (files_of (shown_names names.now)) file }
     ensures files { F.files shelf.new ≡ F.files shelf.old }
     ensures others { OthersKeep (F.apart shelf.old) (files_of (shown_names names.now))
@@ -90,13 +97,16 @@ fn gather_named<F: Shelf>(alloc: Global, shelf: &mut F, names: &Names) -> Result
 /// Reads a file up to its limit.
 fn read_part<F: Shelf>(alloc: Global, shelf: &mut F, file: File, name: &str) -> Result<FilePart, Fault>
     ensures ok { IfOk result (λ part. IfSome (F.files shelf.old) (λ files.
-        IsSomeAnd (text_named files name.now) (λ text. prefix_read part ≡ prefix_of (limit_of file) text))) }
+        IsSomeAnd (text_named files name.now)
+            (λ text. prefix_read part ≡ prefix_of (limit_of file) text))) }
     ensures size { IfOk result (λ part. length part.text.items ≤ limit_of file) }
     ensures err { IfErr result (λ fault. (fault ≡ Fault.Read file) ⊎ (fault ≡ Fault.Memory)) }
-    ensures failed { IsErrOf result (Fault.Read file) → RoseAt (F.faults shelf.old) (F.faults shelf.new) name.now }
+    ensures failed { IsErrOf result (Fault.Read file)
+        → RoseAt (F.faults shelf.old) (F.faults shelf.new) name.now }
     ensures files { F.files shelf.new ≡ F.files shelf.old }
     ensures apart { F.apart shelf.new ≡ F.apart shelf.old }
-    ensures others { OthersStay (F.apart shelf.old) name.now (F.faults shelf.old) (F.faults shelf.new) }
+    ensures others { OthersStay (F.apart shelf.old) name.now (F.faults shelf.old)
+        (F.faults shelf.new) }
     ensures none_falls { NoneFalls (F.faults shelf.old) (F.faults shelf.new) }
 {
     match read_whole(alloc, shelf, name, limit_of(file)) {
@@ -120,9 +130,12 @@ fn limit_of(file: File) -> usize
 #[tactic(auto, unfolding(crate::specs::Outcome::script_fault_of))]
 fn judge_script(alloc: Global, part: &FilePart) -> Result<Script, Fault>
     ensures ok { IfOk result (λ script.
-        (script_fault_of (prefix_read part.now) ≡ None) × (script ≡ script_of (prefix_read part.now))) }
-    ensures err { IfErr result (λ fault. fault ≢ Fault.Memory → script_fault_of (prefix_read part.now) ≡ Some fault) }
-    ensures other { IfErr result (λ fault. (fault ≢ Fault.Usage) × ((file : FileKind) → fault ≢ Fault.Read file)) }
+        (script_fault_of (prefix_read part.now) ≡ None)
+            × (script ≡ script_of (prefix_read part.now))) }
+    ensures err { IfErr result (λ fault. fault ≢ Fault.Memory
+        → script_fault_of (prefix_read part.now) ≡ Some fault) }
+    ensures other { IfErr result (λ fault. (fault ≢ Fault.Usage)
+        × ((file : FileKind) → fault ≢ Fault.Read file)) }
 {
     if part.is_cut {
         return Err(Fault::Long { file: File::Script });

@@ -37,7 +37,8 @@ impl Player {
         requires next { IsNext self.old.count feed.now }
         ensures fault { IfOk result (λ fault. fault ≡ fault_in feed.now) }
         ensures ok { (fs : List Frame) → OnOk result
-            (Shows self.old self.new (K.taken out.old) (K.taken out.new) fs (fs ++ given feed.now)) }
+            (Shows self.old self.new (K.taken out.old) (K.taken out.new) fs
+                (fs ++ given feed.now)) }
         ensures err { (fs : List Frame) → OnErr result
             (StopsShowing self.old (K.taken out.old) (K.taken out.new) fs (fs ++ given feed.now)) }
         ensures playing { IsPlaying self.new }
@@ -67,11 +68,14 @@ impl Player {
         requires within { IsFrameWithin frame.now }
         requires few { frame.now.cycle + empty < 2 ^ 20 }
         ensures ok { (fs : List Frame) → OnOk result
-            (Shows self.old self.new (K.taken out.old) (K.taken out.new) fs (fs ++ given (Feed.Closed frame.now empty))) }
+            (Shows self.old self.new (K.taken out.old) (K.taken out.new) fs
+                (fs ++ given (Feed.Closed frame.now empty))) }
         ensures err { (fs : List Frame) → OnErr result
-            (StopsShowing self.old (K.taken out.old) (K.taken out.new) fs (fs ++ given (Feed.Closed frame.now empty))) }
+            (StopsShowing self.old (K.taken out.old) (K.taken out.new) fs
+                (fs ++ given (Feed.Closed frame.now empty))) }
         ensures playing { IsPlaying self.new }
-        ensures count { OnOk result (self.new.count ≡ self.old.count + length (given (Feed.Closed frame.now empty))) }
+        ensures count { OnOk result (self.new.count
+            ≡ self.old.count + length (given (Feed.Closed frame.now empty))) }
         ensures cause { HasWriteCause (K.faults out.old) (K.faults out.new) result }
     {
         self.play_frame(out, frame)?;
@@ -87,7 +91,8 @@ impl Player {
         requires next { frame.now.cycle ≡ self.old.count }
         requires within { IsFrameWithin frame.now }
         ensures ok { (fs : List Frame) → OnOk result
-            (Shows self.old self.new (K.taken out.old) (K.taken out.new) fs (fs ++ frame.now ∷ [])) }
+            (Shows self.old self.new (K.taken out.old) (K.taken out.new) fs
+                (fs ++ frame.now ∷ [])) }
         ensures err { (fs : List Frame) → OnErr result
             (StopsShowing self.old (K.taken out.old) (K.taken out.new) fs (fs ++ frame.now ∷ [])) }
         ensures playing { IsPlaying self.new }

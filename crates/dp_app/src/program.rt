@@ -53,8 +53,10 @@ pub fn run<F: Shelf, K: Sink>(alloc: Global, words: &[&str], shelf: &mut F, out:
 
     // Where no fault is counted, the status is that of the words and files, unless memory is wanted.
     ensures complete {
-        (AnyRose (files_read (names_in (texts_of words.now))) (F.faults shelf.old) (F.faults shelf.new) → ⊥)
-        → (Rose (K.faults out.old) (K.faults out.new) → ⊥) → IsOfInputs result ⊎ (result ≡ Status.Memory) }
+        (AnyRose (files_read (names_in (texts_of words.now))) (F.faults shelf.old)
+            (F.faults shelf.new) → ⊥)
+        → (Rose (K.faults out.old) (K.faults out.new) → ⊥) → IsOfInputs result
+            ⊎ (result ≡ Status.Memory) }
 
     // The files stay, and no other name is read; where the words are no command, none.
     ensures files { F.files shelf.new ≡ F.files shelf.old }

@@ -22,7 +22,8 @@ pub fn replay<K: Sink>(player: &mut Player, out: &mut K, file: &FilePart) -> Sta
     requires played { HasPlayed player.old.plant player.old.script player.old [] }
     requires size { length file.now.text.items ≤ 2 ^ 36 }
     ensures status { IsOfInputs result
-        → result ≡ (played_out (play_of player.old.plant player.old.script (prefix_read file.now))).status }
+        → result ≡ (played_out (play_of player.old.plant player.old.script
+            (prefix_read file.now))).status }
     ensures written { HasWritten NoReadFailed
         (played_out (play_of player.old.plant player.old.script (prefix_read file.now))).text
         result (K.taken out.old) (K.taken out.new) }

@@ -63,7 +63,9 @@ impl<R: Files> Shelf for FileShelf<'_, R> {
                 (counted self.new.counts (texts_of self.new.words.now) name.now) result
         }
         ensures others {
-            OthersStay (is_among (texts_of self.old.words.now)) name.now (counted self.old.counts (texts_of self.old.words.now)) (counted self.new.counts (texts_of self.new.words.now))
+            OthersStay (is_among (texts_of self.old.words.now)) name.now
+                (counted self.old.counts (texts_of self.old.words.now))
+                    (counted self.new.counts (texts_of self.new.words.now))
         }
         ensures none_falls {
             NoneFalls (counted self.old.counts (texts_of self.old.words.now))
