@@ -28,7 +28,8 @@ acted p cycle (Run c) es = event.Run c ∷ es
 acted p cycle (Order c k) es = if nat_lt k (voters p) then event.Order c k ∷ es else es
 acted p cycle (Orders c) es = ordered c (voters p) es
 acted p cycle (Skew c at) es = event.Skew c (record { north = at.0; east = at.1 }) ∷ es
-acted p cycle (Say c k force) es = if nat_lt k (voters p) then event.Say c k cycle force ∷ es else es
+acted p cycle (Say c k force) es =
+    if nat_lt k (voters p) then event.Say c k cycle force ∷ es else es
 acted p cycle (Stop c) es = event.Stop c ∷ es
 
 -- acts, one after another
@@ -38,7 +39,8 @@ all_acted p cycle (act ∷ acts) es = all_acted p cycle acts (acted p cycle act 
 
 -- a cycle: its frame is heard, the script's acts of this cycle are done, and each voter votes
 unfoldable pub cycled : Plant → List Scripted → Frame → List Event → List Event
-cycled p script f es = voted (voters p) (all_acted p f.cycle (acts_at f.cycle script) (event.Wire f ∷ es))
+cycled p script f es = voted (voters p)
+    (all_acted p f.cycle (acts_at f.cycle script) (event.Wire f ∷ es))
 
 -- one cycle for each frame
 unfoldable pub played : Plant → List Scripted → List Frame → List Event → List Event
