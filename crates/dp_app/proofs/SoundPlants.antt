@@ -6,7 +6,7 @@ use Rattle.dp_frame.specs.LocalFrame.{IsOrigin, origin_of}
 use Rattle.dp_frame.specs.Represents.{settings_of}
 
 pub some_cycle : (p : Plant) → IsSoundPlant p → 0 < (settings_of p).cycle_ms
-some_cycle p sound = omega (arith, sound.cycle_low)
+some_cycle p sound = omega (arith, sound.within.cycle_low)
 
 pub origin_within : (p : Plant) → IsSoundPlant p → IsOrigin (origin_of p)
-origin_within p sound = record { lat = sound.origin.latitude; lon = sound.origin.longitude }
+origin_within p sound = record { lat = sound.within.origin.latitude; lon = sound.within.origin.longitude }

@@ -81,7 +81,7 @@ box-ordered : (p : Plant) (lost : ℕ) (o : Option RawCase) → IsSoundPlant p �
 box-ordered p lost None sound e = record { surge = omega (arith, ints); sway = omega (arith, ints); yaw = omega (arith, ints) }
 box-ordered p lost (Some c) sound e =
     let at = find-at (λ (c : RawCase). c.lost == lost) p.cases.items c e in
-    case-ordered _ c (all-at (IsCaseWithin _) p.cases.items at.0 c sound.cases at.1)
+    case-ordered _ c (all-at (IsCaseWithin _) p.cases.items at.0 c sound.within.cases at.1)
 
 -- ---- an issue
 

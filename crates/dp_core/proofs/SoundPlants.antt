@@ -17,7 +17,7 @@ all-at P xs k x all e = subst P (index-is xs k x x e) (all k x (below-get xs k x
 
 pub sound-ordered : (p : Plant) → IsSoundPlant p → (k : ℕ) (t : Thruster) → slice_get p.thrusters.items k ≡ Some t → t.min ≤ℤ t.max
 sound-ordered p s k t e =
-    let w = all-at IsThrusterWithin p.thrusters.items k t s.thrusters e in
+    let w = all-at IsThrusterWithin p.thrusters.items k t s.within.thrusters e in
     let below = w.below in
     let above = w.above in
     omega (arith, ints)

@@ -15,7 +15,7 @@ found P test [] all = tt
 found P test (x ∷ xs) all = found_by P test x xs (test x) (all 0 x (omega arith)) (found P test xs (λ k d l. all (suc k) d (omega arith)))
 
 pub case_within : (p : Plant) (lost : ℕ) → IsSoundPlant p → IfSome (case_of p lost) (IsCaseWithin (length p.thrusters.items))
-case_within p lost sound = found (IsCaseWithin (length p.thrusters.items)) (λ c. c.lost == lost) p.cases.items sound.cases
+case_within p lost sound = found (IsCaseWithin (length p.thrusters.items)) (λ c. c.lost == lost) p.cases.items sound.within.cases
 
 pub within_of : (p : Plant) (lost : ℕ) (c : RawCase) → IsSoundPlant p → case_of p lost ≡ Some c → IsCaseWithin (length p.thrusters.items) c
 within_of p lost c sound e = rw e at (case_within p lost sound)
