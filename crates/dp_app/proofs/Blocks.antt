@@ -11,12 +11,12 @@ use Rattle.dp_core.specs.Mode.{mode}
 use Rattle.dp_core.specs.Moment.{Moment}
 use Rattle.dp_core.specs.Voting.{ballot, taken_forces}
 use Rattle.dp_report.specs.Block.{BlockValue}
-use Rattle.dp_script.specs.declared.event.Event.{Event as Scripted}
-use Rattle.dp_script.specs.Events.{acts_at}
+use Rattle.dp_script.specs.declared.timed_act.TimedAct.{TimedAct}
+use Rattle.dp_script.specs.TimedActs.{acts_at}
 use Rattle.dp_app.specs.Acting.{all_acted, cycled, voted, voters}
 use Rattle.dp_app.specs.Blocks.{block_at}
 
-pub cycled_is : (p : Plant) (script : List Scripted) (f : Frame) (es : List Event) → voted (voters p) (all_acted p f.cycle (acts_at f.cycle script) (Wire f ∷ es)) ≡ cycled p script f es
+pub cycled_is : (p : Plant) (script : List TimedAct) (f : Frame) (es : List Event) → voted (voters p) (all_acted p f.cycle (acts_at f.cycle script) (Wire f ∷ es)) ≡ cycled p script f es
 unfolding cycled
 cycled_is p script f es = refl
 

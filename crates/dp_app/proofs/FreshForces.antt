@@ -18,8 +18,8 @@ use Rattle.dp_machine.specs.Reference.{force_of}
 use Rattle.dp_machine.specs.Run.{own_setpoints}
 use Rattle.dp_core.specs.Voting.{ballot, given_ballot}
 use Rattle.dp_report.specs.Block.{BlockValue}
-use Rattle.dp_script.specs.declared.event.Event.{Event as Scripted}
-use Rattle.dp_script.specs.Events.{acts_at}
+use Rattle.dp_script.specs.declared.timed_act.TimedAct.{TimedAct}
+use Rattle.dp_script.specs.TimedActs.{acts_at}
 use Rattle.dp_app.specs.declared.fault.Fault.{Fault}
 use Rattle.dp_app.specs.Acting.{all_acted, cycled, played, voters}
 use Rattle.dp_app.specs.Blocks.{block_at, block_of, blocks}
@@ -32,7 +32,7 @@ use Rattle.dp_app.proofs.Plays.{played_next}
 use Rattle.dp_app.proofs.Votes.{given_voted}
 
 -- the cycle that a block tells
-pub record Found (p : Plant) (script : List Scripted) (fs : List Frame) (es : List Event) (n : ℕ) (b : BlockValue) : Type 0 where
+pub record Found (p : Plant) (script : List TimedAct) (fs : List Frame) (es : List Event) (n : ℕ) (b : BlockValue) : Type 0 where
   pub frame : Frame
   pub at : slice_get fs n ≡ Some frame
   pub is : b ≡ block_of p frame.cycle (cycled p script frame (played p script (take n fs) es))
@@ -40,7 +40,7 @@ pub record Found (p : Plant) (script : List Scripted) (fs : List Frame) (es : Li
 some_is : {A : Type 0} (x y : A) → Some x ≡ Some y → x ≡ y
 some_is x y e = cc
 
-found : (p : Plant) (script : List Scripted) (fs : List Frame) (es : List Event) (n : ℕ) (b : BlockValue) → slice_get (blocks p script fs es) n ≡ Some b → Found p script fs es n b
+found : (p : Plant) (script : List TimedAct) (fs : List Frame) (es : List Event) (n : ℕ) (b : BlockValue) → slice_get (blocks p script fs es) n ≡ Some b → Found p script fs es n b
 unfolding blocks played
 found p script [] es n b e = absurd cc
 found p script (f ∷ fs) es zero b e = record { frame = f; at = refl; is = sym (some_is _ b e) }
@@ -71,7 +71,7 @@ within [] n f e = absurd cc
 within (g ∷ fs) zero f e = omega arith
 within (g ∷ fs) (suc n) f e = let later = within fs n f e in omega arith
 
-module _ (law : FreshIsReference) (p : Plant) (script : List Scripted) (fs : List Frame) where
+module _ (law : FreshIsReference) (p : Plant) (script : List TimedAct) (fs : List Frame) where
   cycle_is : (n : ℕ) (f : Frame) → slice_get fs n ≡ Some f → cycled p script f (played p script (take n fs) []) ≡ played p script (take (n + 1) fs) []
   cycle_is n f at = sym (ap (λ (l : List Frame). played p script l []) (take_next fs n f at) ∙ played_next p script (take n fs) f [])
 

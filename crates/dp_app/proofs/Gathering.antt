@@ -2,7 +2,7 @@
 use Rattle.std.proofs.Common.{◌≡◌, ◌≢◌, ◌⊎◌, ◌≤◌, ℕ, Bool, List, Option, Some, None, Err, Ok, Result, IfErr, IfOk, IfSome, IsSomeAnd, IsTrue, inl, inr, refl, sym, ap, ◌∙◌, subst, arith}
 use Rattle.dp_plant.specs.BuiltInPlant.{built_in_plant}
 use Rattle.dp_plant.specs.declared.plant.Plant.{Plant}
-use Rattle.dp_script.specs.declared.event.Event.{Event as Scripted}
+use Rattle.dp_script.specs.declared.timed_act.TimedAct.{TimedAct}
 use Rattle.dp_shell.specs.Faults.{NoneFalls, OthersStay}
 use Rattle.dp_shell.specs.Texts.{Files, text_named}
 use Rattle.dp_app.specs.declared.fault.Fault.{Fault}
@@ -14,20 +14,20 @@ use Rattle.dp_app.specs.FaultLines.{fault_status}
 use Rattle.dp_app.specs.Outcome.{IsOfInputs, Prefix, play_of, play_with, prefix_of, record_limit, refused_or, script_fault_of, script_limit, script_of, with_record, with_script}
 use Rattle.dp_app.specs.Words.{Names, files_of}
 
-with_both : (s r : Option (List ℕ)) (script : List Scripted) (part file : Prefix)
+with_both : (s r : Option (List ℕ)) (script : List TimedAct) (part file : Prefix)
     → IsSomeAnd s (λ text. part ≡ prefix_of script_limit text)
     → script_fault_of part ≡ None → script ≡ script_of part
     → IsSomeAnd r (λ text. file ≡ prefix_of record_limit text)
     → with_script s r ≡ Ok (play_of built_in_plant script file)
 with_both (Some text) (Some record_text) script part file read sound is read_too =
     ap (λ f. refused_or f (with_record (script_of (prefix_of script_limit text)) (Some record_text))) (ap script_fault_of (sym read) ∙ sound)
-    ∙ ap (λ (x : List Scripted). Ok (play_of built_in_plant x (prefix_of record_limit record_text))) (ap script_of (sym read) ∙ sym is)
+    ∙ ap (λ (x : List TimedAct). Ok (play_of built_in_plant x (prefix_of record_limit record_text))) (ap script_of (sym read) ∙ sym is)
     ∙ ap (λ (x : Prefix). Ok (play_of built_in_plant script x)) (sym read_too)
 with_both (Some text) None script part file read sound is read_too = absurd read_too
 with_both None r script part file read sound is read_too = absurd read
 
 -- both files were read, and the script has no fault
-pub gathered : (files : Option Files) (names : Names) (script : List Scripted) (part file : Prefix) (p : Plant) → p ≡ built_in_plant
+pub gathered : (files : Option Files) (names : Names) (script : List TimedAct) (part file : Prefix) (p : Plant) → p ≡ built_in_plant
     → IfSome files (λ told. IsSomeAnd (text_named told names.script_name) (λ text. part ≡ prefix_of script_limit text))
     → script_fault_of part ≡ None → script ≡ script_of part
     → IfSome files (λ told. IsSomeAnd (text_named told names.record_name) (λ text. file ≡ prefix_of record_limit text))

@@ -2,7 +2,7 @@
 use Rattle.std.proofs.Common.{◌≡◌, ◌≢◌, ◌⊎◌, ◌≤◌, ℕ, List, [], ◌∷◌, ◌++◌, length, Option, Some, None, Err, Result, IfSome, inl, inr, refl, sym, ap, ◌∙◌, subst, arith}
 use Rattle.std.specs.Io.KnownBytes.{Appends}
 use Rattle.dp_plant.specs.declared.plant.Plant.{Plant}
-use Rattle.dp_script.specs.declared.event.Event.{Event as Scripted}
+use Rattle.dp_script.specs.declared.timed_act.TimedAct.{TimedAct}
 use Rattle.dp_shell.specs.Faults.{Rose}
 use Rattle.dp_shell.specs.Texts.{Files}
 use Rattle.dp_shell.proofs.Taken.{line_cut, line_whole}
@@ -21,14 +21,14 @@ use Rattle.dp_app.specs.Written.{EndsWithFault, HasWritten, IsAnnounced, LineEnd
 use Rattle.dp_app.proofs.Endings.{written_inputs}
 
 -- the outcome of what a record plays
-pub out_is : (p : Plant) (script : List Scripted) (f : Prefix) (count : ℕ) (fault : Option Fault) → count ≡ length (play_of p script f).frames → fault ≡ (play_of p script f).fault
+pub out_is : (p : Plant) (script : List TimedAct) (f : Prefix) (count : ℕ) (fault : Option Fault) → count ≡ length (play_of p script f).frames → fault ≡ (play_of p script f).fault
     → text_played p script (play_of p script f).frames ++ last_line count fault ≡ (played_out (play_of p script f)).text
 unfolding played_out play_of
 out_is p script f count fault many is =
     let first = text_played p script (play_of p script f).frames in
     ap (λ (n : ℕ). first ++ last_line n fault) many ∙ ap (λ (o : Option Fault). first ++ last_line (length (play_of p script f).frames) o) is
 
-pub status_is : (p : Plant) (script : List Scripted) (f : Prefix) (fault : Option Fault) → fault ≡ (play_of p script f).fault → last_status fault ≡ (played_out (play_of p script f)).status
+pub status_is : (p : Plant) (script : List TimedAct) (f : Prefix) (fault : Option Fault) → fault ≡ (play_of p script f).fault → last_status fault ≡ (played_out (play_of p script f)).status
 unfolding played_out
 status_is p script f fault is = ap last_status is
 

@@ -10,8 +10,8 @@ use Rattle.dp_core.specs.Mode.{cycles_begun, frames}
 use Rattle.dp_core.proofs.HistoryLemmas.{frames-order, frames-run, frames-say, frames-skew, frames-stop, frames-vote, frames-wire}
 use Rattle.dp_script.specs.declared.act.Act.{Act}
 use Rattle.dp_script.specs.declared.act.Act.TheVariants.{Run, Order, Orders, Skew, Say, Stop}
-use Rattle.dp_script.specs.declared.event.Event.{Event as Scripted}
-use Rattle.dp_script.specs.Events.{acts_at}
+use Rattle.dp_script.specs.declared.timed_act.TimedAct.{TimedAct}
+use Rattle.dp_script.specs.TimedActs.{acts_at}
 use Rattle.dp_app.specs.Acting.{acted, all_acted, cycled, ordered, played, voted, voters}
 
 frames_ordered : (p : Plant) (c n : ℕ) (es : List Event) → frames (history p (ordered c n es)) ≡ frames (history p es)
@@ -43,7 +43,7 @@ unfolding all_acted
 frames_all p cycle [] es = refl
 frames_all p cycle (act ∷ acts) es = frames_all p cycle acts (acted p cycle act es) ∙ frames_acted p cycle act es
 
-frames_cycled : (p : Plant) (script : List Scripted) (f : Frame) (es : List Event) → frames (history p (cycled p script f es)) ≡ frames (history p es) ++ f ∷ []
+frames_cycled : (p : Plant) (script : List TimedAct) (f : Frame) (es : List Event) → frames (history p (cycled p script f es)) ≡ frames (history p es) ++ f ∷ []
 unfolding cycled
 frames_cycled p script f es =
     let heard = event.Wire f ∷ es in
@@ -51,7 +51,7 @@ frames_cycled p script f es =
     ∙ frames_all p f.cycle (acts_at f.cycle script) heard
     ∙ frames-wire p f es
 
-frames_after : (p : Plant) (script : List Scripted) (fs : List Frame) (es : List Event) → frames (history p (played p script fs es)) ≡ frames (history p es) ++ fs
+frames_after : (p : Plant) (script : List TimedAct) (fs : List Frame) (es : List Event) → frames (history p (played p script fs es)) ≡ frames (history p es) ++ fs
 unfolding played
 frames_after p script [] es = sym (append-nil (frames (history p es)))
 frames_after p script (f ∷ fs) es =
@@ -63,8 +63,8 @@ none_heard : (p : Plant) → frames (history p []) ≡ []
 unfolding history frames
 none_heard p = refl
 
-pub frames_played : (p : Plant) (script : List Scripted) (fs : List Frame) → frames (history p (played p script fs [])) ≡ fs
+pub frames_played : (p : Plant) (script : List TimedAct) (fs : List Frame) → frames (history p (played p script fs [])) ≡ fs
 frames_played p script fs = frames_after p script fs [] ∙ ap (λ (l : List Frame). l ++ fs) (none_heard p)
 
-pub begun_played : (p : Plant) (script : List Scripted) (fs : List Frame) → cycles_begun (history p (played p script fs [])) ≡ length fs
+pub begun_played : (p : Plant) (script : List TimedAct) (fs : List Frame) → cycles_begun (history p (played p script fs [])) ≡ length fs
 begun_played p script fs = ap length (frames_played p script fs)

@@ -12,7 +12,7 @@ use Rattle.dp_frame.specs.declared.feed.Feed.TheVariants.{Closed}
 use Rattle.dp_frame.specs.Feeds.{given}
 use Rattle.dp_frame.specs.Frames.{no_frame}
 use Rattle.dp_report.specs.Block.{block_text}
-use Rattle.dp_script.specs.declared.event.Event.{Event as Scripted}
+use Rattle.dp_script.specs.declared.timed_act.TimedAct.{TimedAct}
 use Rattle.dp_app.specs.declared.player.Player.{Player}
 use Rattle.dp_app.specs.Acting.{cycled, played}
 use Rattle.dp_app.specs.Blocks.{block_of, blocks, text_of}
@@ -21,7 +21,7 @@ use Rattle.dp_app.proofs.PlayedFrames.{begun_played}
 use Rattle.dp_app.proofs.Lists.{range_suc}
 use Rattle.dp_app.proofs.Plays.{blocks_append, played_next}
 
-module _ (p : Plant) (script : List Scripted) where
+module _ (p : Plant) (script : List TimedAct) where
   -- the next frame is that of the cycle that is counted next
   pub next_cycle : (x : Player) (fs : List Frame) → HasPlayed p script x fs → x.world.cycles_begun ≡ x.count
   next_cycle x fs h =

@@ -11,7 +11,7 @@ use Rattle.dp_frame.specs.Cycles.{frames_so_far, record_frames, record_length}
 use Rattle.dp_frame.specs.Record.{all_lines, ended_lines, first_refusal}
 use Rattle.dp_frame.specs.Represents.{settings_of}
 use Rattle.dp_frame.proofs.Endings.{refusal-ends}
-use Rattle.dp_script.specs.declared.event.Event.{Event as Scripted}
+use Rattle.dp_script.specs.declared.timed_act.TimedAct.{TimedAct}
 use Rattle.dp_app.specs.declared.fault.Fault.{Fault}
 use Rattle.dp_app.specs.declared.fault.Fault.TheVariants.{Long}
 use Rattle.dp_app.specs.declared.fault.File.TheVariants.{Record}
@@ -36,7 +36,7 @@ fault_true : (o : Option Refusal) (r : Refusal) → o ≡ Some r → record_faul
 fault_true (Some x) r e = refl
 fault_true None r e = absurd cc
 
-module _ (p : Plant) (script : List Scripted) (f : Prefix) (some : 0 < (settings_of p).cycle_ms) where
+module _ (p : Plant) (script : List TimedAct) (f : Prefix) (some : 0 < (settings_of p).cycle_ms) where
   fault_is : (play_of p script f).fault ≡ record_fault (first_refusal (settings_of p) (lines_of f)) f.goes_on
   unfolding play_of
   fault_is = refl

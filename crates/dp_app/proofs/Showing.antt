@@ -4,7 +4,7 @@ use Rattle.std.specs.Io.KnownBytes.{Appends}
 use Rattle.std.proofs.lemmas.List.{append-nil}
 use Rattle.dp_plant.specs.declared.frames.Frame.{Frame}
 use Rattle.dp_plant.specs.declared.plant.Plant.{Plant}
-use Rattle.dp_script.specs.declared.event.Event.{Event as Scripted}
+use Rattle.dp_script.specs.declared.timed_act.TimedAct.{TimedAct}
 use Rattle.dp_shell.specs.Taken.{AppendsCut}
 use Rattle.dp_shell.proofs.Taken.{appends_none, appends_then, cut_after, cut_before}
 use Rattle.dp_app.specs.declared.player.Player.{Player}
@@ -18,18 +18,18 @@ module _ (x y : Player) (a b : Option (List ℕ)) where
       → Shows x y a b fs gs
   shows_own fs gs own p script start h =
       let mine = subst (λ (q : Plant). HasShown q x.script start a x fs) (sym h.frames.plant)
-      (subst (λ (t : List Scripted). HasShown p t start a x fs) (sym h.frames.script_is) h) in
+      (subst (λ (t : List TimedAct). HasShown p t start a x fs) (sym h.frames.script_is) h) in
       subst (λ (q : Plant). HasShown q script start b y gs) h.frames.plant
-      (subst (λ (t : List Scripted). HasShown x.plant t start b y gs) h.frames.script_is (own start mine))
+      (subst (λ (t : List TimedAct). HasShown x.plant t start b y gs) h.frames.script_is (own start mine))
 
   pub stops_own : (fs gs : List Frame)
       → ((start : Option (List ℕ)) → HasShown x.plant x.script start a x fs → AppendsCut start b (text_played x.plant x.script gs))
       → StopsShowing x a b fs gs
   stops_own fs gs own p script start h =
       let mine = subst (λ (q : Plant). HasShown q x.script start a x fs) (sym h.frames.plant)
-      (subst (λ (t : List Scripted). HasShown p t start a x fs) (sym h.frames.script_is) h) in
+      (subst (λ (t : List TimedAct). HasShown p t start a x fs) (sym h.frames.script_is) h) in
       subst (λ (q : Plant). AppendsCut start b (text_played q script gs)) h.frames.plant
-      (subst (λ (t : List Scripted). AppendsCut start b (text_played x.plant t gs)) h.frames.script_is (own start mine))
+      (subst (λ (t : List TimedAct). AppendsCut start b (text_played x.plant t gs)) h.frames.script_is (own start mine))
 
   pub shows_as : (fs gs hs : List Frame) → gs ≡ hs → Shows x y a b fs gs → Shows x y a b fs hs
   shows_as fs gs hs is shows p script start h =
@@ -65,7 +65,7 @@ shows_nothing x a fs gs none =
     (sym (append-nil fs) ∙ ap (λ (l : List Frame). fs ++ l) (sym none)) (shows_none x a fs)
 
 -- who has played nothing has shown nothing
-pub shown_none : (p : Plant) (script : List Scripted) (x : Player) (a : Option (List ℕ)) → HasPlayed p script x [] → HasShown p script a a x []
+pub shown_none : (p : Plant) (script : List TimedAct) (x : Player) (a : Option (List ℕ)) → HasPlayed p script x [] → HasShown p script a a x []
 shown_none p script x a h = record {
   frames = h;
   text = subst (λ (l : List ℕ). Appends a a l) (sym (text_none p script)) (appends_none a);

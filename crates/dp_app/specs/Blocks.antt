@@ -9,7 +9,7 @@ use Rattle.dp_core.specs.Mode.{mode}
 use Rattle.dp_core.specs.Voting.{ballot, taken_forces}
 use Rattle.dp_core.specs.declared.event.Event.{Event}
 use Rattle.dp_report.specs.Block.{BlockValue, block_text}
-use Rattle.dp_script.specs.declared.event.Event.{Event as Scripted}
+use Rattle.dp_script.specs.declared.timed_act.TimedAct.{TimedAct}
 use Rattle.dp_app.specs.Acting.{cycled, voters}
 
 -- at the end of a cycle: how each computer takes part, and the ballot of each of n voters and the orders that it took
@@ -26,7 +26,7 @@ abbrev pub block_of : Plant → ℕ → List Event → BlockValue
 block_of p cycle es = block_at (voters p) cycle (history p es)
 
 -- the blocks of one cycle after another, after these events
-unfoldable pub blocks : Plant → List Scripted → List Frame → List Event → List BlockValue
+unfoldable pub blocks : Plant → List TimedAct → List Frame → List Event → List BlockValue
 blocks p script [] es = []
 blocks p script (f ∷ fs) es = block_of p f.cycle (cycled p script f es)
     ∷ blocks p script fs (cycled p script f es)

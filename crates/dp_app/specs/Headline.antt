@@ -8,7 +8,7 @@ use Rattle.dp_core.specs.History.{history}
 use Rattle.dp_machine.specs.Reference.{force_of}
 use Rattle.dp_machine.specs.Run.{own_setpoints}
 use Rattle.dp_report.specs.Block.{BlockValue}
-use Rattle.dp_script.specs.declared.event.Event.{Event as Scripted}
+use Rattle.dp_script.specs.declared.timed_act.TimedAct.{TimedAct}
 use Rattle.dp_app.specs.declared.fault.Fault.{Fault}
 use Rattle.dp_app.specs.Acting.{played}
 use Rattle.dp_app.specs.Blocks.{blocks}
@@ -16,7 +16,7 @@ use Rattle.dp_app.specs.Outcome.{Play}
 
 -- each fresh force in the block of cycle n is that of the reference run, one computer alone over the frames up to n, where at most one
 -- computer is faulty in any cycle up to n
-abbrev pub FreshForcesAreReference : Plant → List Scripted → List Frame → List BlockValue → Type 0
+abbrev pub FreshForcesAreReference : Plant → List TimedAct → List Frame → List BlockValue → Type 0
 FreshForcesAreReference p script fs bs = (n k : ℕ) (b : BlockValue) (f : ℤ)
     → AtMostOneFaulty (history p (played p script (take (n + 1) fs) []))
     → slice_get bs n ≡ Some b → slice_get b.ballots k ≡ Some (Fresh f)

@@ -12,10 +12,10 @@ use Rattle.dp_frame.specs.Represents.{settings_of}
 use Rattle.dp_plant.specs.BuiltInPlant.{built_in_plant}
 use Rattle.dp_plant.specs.declared.frames.Frame.{Frame}
 use Rattle.dp_plant.specs.declared.plant.Plant.{Plant}
-use Rattle.dp_script.specs.declared.event.Event.{Event as Scripted}
+use Rattle.dp_script.specs.declared.timed_act.TimedAct.{TimedAct}
 use Rattle.dp_script.specs.declared.fault.ScriptFault.{ScriptFault}
 use Rattle.dp_script.specs.declared.fault.ScriptFault.TheVariants as script_fault
-use Rattle.dp_script.specs.Events.{events_by}
+use Rattle.dp_script.specs.TimedActs.{timed_acts_by}
 use Rattle.dp_script.specs.Faults.{fault_in}
 use Rattle.dp_app.specs.declared.fault.Fault.{Fault}
 use Rattle.dp_app.specs.declared.fault.Fault.TheVariants.{Usage, Read, Long, BadScript, BadRecord, LongCycles}
@@ -36,7 +36,7 @@ pub record Outcome : Type 0 where
 -- what is played: on a plant, a script over the frames of a record, up to the fault that it has, if any
 pub record Play : Type 0 where
   pub plant : Plant
-  pub script : List Scripted
+  pub script : List TimedAct
   pub frames : List Frame
   pub fault : Option Fault
 
@@ -98,7 +98,7 @@ abbrev pub frames_played : Settings → List (List ℕ) → Option Fault → Lis
 frames_played s lines fault = if is_some fault then frames_so_far s lines else record_frames s lines
 
 -- what a record plays on a plant
-unfoldable pub play_of : Plant → List Scripted → Prefix → Play
+unfoldable pub play_of : Plant → List TimedAct → Prefix → Play
 play_of p script f =
     let s = settings_of p in
     let fault = record_fault (first_refusal s (lines_of f)) f.goes_on in
@@ -110,7 +110,7 @@ abbrev pub record_limit : ℕ
 record_limit = 68719476736
 
 -- by the record's text, or without one
-abbrev pub with_record : List Scripted → Option (List ℕ) → Result Play Fault
+abbrev pub with_record : List TimedAct → Option (List ℕ) → Result Play Fault
 with_record script (Some text) = Ok (play_of built_in_plant script (prefix_of record_limit text))
 with_record script None = Err (Read Record)
 
@@ -126,8 +126,8 @@ unfoldable pub script_fault_of : Prefix → Option Fault
 script_fault_of f = if f.goes_on then Some (Long Script) else line_fault (fault_in f.text)
 
 -- a script's acts in order, each with its cycle
-abbrev pub script_of : Prefix → List Scripted
-script_of f = events_by (text_lines false f.text)
+abbrev pub script_of : Prefix → List TimedAct
+script_of f = timed_acts_by (text_lines false f.text)
 
 -- the most bytes of a script, 2^24
 abbrev pub script_limit : ℕ

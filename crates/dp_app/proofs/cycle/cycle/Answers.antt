@@ -6,7 +6,7 @@ use Rattle.dp_core.specs.History.{history}
 use Rattle.dp_core.specs.Mode.{mode}
 use Rattle.dp_core.specs.Represents.{Represents}
 use Rattle.dp_report.specs.Block.{block_text}
-use Rattle.dp_script.specs.Events.{acts_at}
+use Rattle.dp_script.specs.TimedActs.{acts_at}
 use Rattle.dp_app.specs.Acting.{all_acted, voted, voters}
 use Rattle.dp_app.specs.Blocks.{block_of}
 use Rattle.dp_app.proofs.Blocks.{block_is, cycled_is}
