@@ -1,8 +1,8 @@
 //! The core: three computers that run the same control side by side, and a voter for each thruster.
 //!
 //! A [`World`] takes one event at a time, in any order, by a call of the event's kind, or as an [`Event`] by [`World::apply`], which is
-//! answered with what is [`Seen`]. A Wire brings the frame of the next cycle to each computer, and each voter's next cycle begins. A Run lets one computer step over the oldest frame that it has
-//! been given and not done, which gives an [`Issue`]. An Order delivers a computer's last issue to one voter, a Vote asks a voter for the
+//! answered with what is [`Seen`]. A Wire brings the frame of the next cycle to each computer, and each voter's next cycle begins. A Run
+//! lets one computer step over the oldest frame that it has been given and not done, which gives an [`Issue`]. An Order delivers a computer's last issue to one voter, a Vote asks a voter for the
 //! ballot of this cycle. Skew, Say and Stop are faults: a computer's estimate is put at rest at a false place, a computer orders any
 //! force, a computer is switched off. Nothing is promised of the order of events: frames may wait, orders may get lost.
 //!
