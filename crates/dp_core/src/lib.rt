@@ -1,8 +1,8 @@
 //! The core: three computers that run the same control side by side, and a voter for each thruster.
 //!
-//! A [`World`] takes one [`Event`] at a time, in any order, and answers it with what is [`Seen`]. A Wire brings the frame of the next
-//! cycle: each computer hears it, and each voter's next cycle begins. A Run lets one computer step over the oldest frame that it has
-//! heard and not done, which gives an [`Issue`]. An Order delivers a computer's last issue to one voter, a Vote asks a voter for the
+//! A [`World`] takes one event at a time, in any order, by a call of the event's kind, or as an [`Event`] by [`World::apply`], which is
+//! answered with what is [`Seen`]. A Wire brings the frame of the next cycle to each computer, and each voter's next cycle begins. A Run
+//! lets one computer step over the oldest frame that it has been given and not done, which gives an [`Issue`]. An Order delivers a computer's last issue to one voter, a Vote asks a voter for the
 //! ballot of this cycle. Skew, Say and Stop are faults: a computer's estimate is put at rest at a false place, a computer orders any
 //! force, a computer is switched off. Nothing is promised of the order of events: frames may wait, orders may get lost.
 //!
@@ -10,7 +10,7 @@
 //! stands beside what was seen of it. What a computer's mode, trajectory and last issue are, and which orders and ballots a voter gave,
 //! is found by a search from the newest moment on (`Mode`, `Trajectory`, `Voting`). A world `Represents` a list of events where its parts
 //! are what the list's history says; [`World::new`] represents the empty list, and after [`World::apply`] of an event a world represents
-//! its list followed by that event, with the answer that the history gives.
+//! its list followed by that event, with the answer that the history gives; so it is with the call of each kind.
 //!
 //! A computer is faulty from a Skew or a Say of it on, until it breaks: is stopped, diverges or overruns. So a skewed computer counts as
 //! faulty, though its orders are what it believes. [`laws`] says, for every list of events in which at most one computer is faulty in any
