@@ -151,25 +151,27 @@ unfolding list_out form_rows vertex_rows output_rows span_rows
 list_facts found l h s =
     let o = all_fit _ (output_rows l) h in
     let v = all_fit _ (vertex_rows l) o.0 in
-    let n = all_fit found (form_rows l) v.0 in
-    (n.0, record {
-      p = matrix_within l.p.at (n.1 0 dummy (omega arith));
-      span = λ j. size_at l.span j (n.1 1 dummy (omega arith));
-      form = squares_small l.form.list.items (n.1 2 dummy (omega arith));
-      surge0 = squares_small _ (v.1 0 dummy (omega arith));
-      surge1 = squares_small _ (v.1 1 dummy (omega arith));
-      surge2 = squares_small _ (v.1 2 dummy (omega arith));
-      sway0 = squares_small _ (v.1 3 dummy (omega arith));
-      sway1 = squares_small _ (v.1 4 dummy (omega arith));
-      sway2 = squares_small _ (v.1 5 dummy (omega arith));
-      out_surge0 = squares_small _ (o.1 0 dummy (omega arith));
-      out_surge1 = squares_small _ (o.1 1 dummy (omega arith));
-      out_sway0 = squares_small _ (o.1 2 dummy (omega arith));
-      out_sway1 = squares_small _ (o.1 3 dummy (omega arith));
-      span0 = squares_small _ (s 0 dummy (omega arith));
-      span1 = squares_small _ (s 1 dummy (omega arith));
-      span2 = squares_small _ (s 2 dummy (omega arith));
-    })
+    let n = all_fit found (form_rows l) v.0 in (
+      n.0,
+      record {
+        p = matrix_within l.p.at (n.1 0 dummy (omega arith));
+        span = λ j. size_at l.span j (n.1 1 dummy (omega arith));
+        form = squares_small l.form.list.items (n.1 2 dummy (omega arith));
+        surge0 = squares_small _ (v.1 0 dummy (omega arith));
+        surge1 = squares_small _ (v.1 1 dummy (omega arith));
+        surge2 = squares_small _ (v.1 2 dummy (omega arith));
+        sway0 = squares_small _ (v.1 3 dummy (omega arith));
+        sway1 = squares_small _ (v.1 4 dummy (omega arith));
+        sway2 = squares_small _ (v.1 5 dummy (omega arith));
+        out_surge0 = squares_small _ (o.1 0 dummy (omega arith));
+        out_surge1 = squares_small _ (o.1 1 dummy (omega arith));
+        out_sway0 = squares_small _ (o.1 2 dummy (omega arith));
+        out_sway1 = squares_small _ (o.1 3 dummy (omega arith));
+        span0 = squares_small _ (s 0 dummy (omega arith));
+        span1 = squares_small _ (s 1 dummy (omega arith));
+        span2 = squares_small _ (s 2 dummy (omega arith));
+      },
+    )
 
 wave_facts : (l : Lists 5) → All (λ (row : Row). row.1 ≡ true) (wave_span_rows l) → AreWaveSpans l
 unfolding wave_span_rows

@@ -1,5 +1,5 @@
 -- What the parts of a certificate say of the whole.
-use Rattle.std.proofs.Common.{◌≡◌, ◌<◌, ℕ, zero, suc, sym, subst, ◌∙◌, arith}
+use Rattle.std.proofs.Common.{◌≡◌, zero, suc, sym, subst, ◌∙◌, arith}
 use Rattle.dp_plant.specs.declared.cert.Cert.{Cert}
 use Rattle.dp_plant.specs.declared.cert.Lists.{Lists}
 use Rattle.dp_plant.specs.declared.cert.Parts.{Parts}

@@ -1,5 +1,5 @@
 -- Arrays that are made entry by entry.
-use Rattle.std.proofs.Common.{◌≡◌, ◌<◌, ◌+◌, ◌≢◌, ℕ, zero, suc, List, [], ◌∷◌, length, get_or, set, map, inl, inr, refl, sym, ap, subst, ◌∙◌, arith, ℤ, pos}
+use Rattle.std.proofs.Common.{◌≡◌, ◌<◌, ◌+◌, ◌≢◌, ℕ, suc, List, [], ◌∷◌, length, get_or, set, map, inl, inr, refl, sym, subst, arith}
 use Rattle.std.proofs.lemmas.List.{get_or_default, get_or-set_same, get_or-set_other}
 use Rattle.std.proofs.lemmas.Bool.{cases_lt}
 use Rattle.std.proofs.lemmas.List.Elements.{All-nil, All-cons}

@@ -1,5 +1,5 @@
 -- What no key out of range means for the numbers of a certificate.
-use Rattle.std.specs.Prelude.{ℕ, ◌<◌, ◌^◌, ℤ, pos, ◌≤ℤ◌, All}
+use Rattle.std.specs.Prelude.{ℕ, ◌^◌, ℤ, pos, ◌≤ℤ◌, All}
 use Rattle.dp_fixed.specs.Scale.{full_scale}
 use Rattle.dp_form.specs.Range.{IsWithin, IsSmallSquare}
 use Rattle.dp_plant.specs.Ranges.{IsObserverGains, IsLawGains}

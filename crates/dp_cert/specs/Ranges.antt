@@ -1,5 +1,5 @@
 -- The ranges of gains and certificates, by the names of their keys in the plant file, in the file's order.
-use Rattle.std.specs.Prelude.{ℕ, ◌^◌, ℤ, pos, neg_ℤ, ◌≤ℤ◌, int_le, All, ◌&&◌, Bool, true, false, List, [], ◌∷◌, Option, Some, None, codes, slice_index_or, map}
+use Rattle.std.specs.Prelude.{ℕ, ◌^◌, ℤ, pos, neg_ℤ, int_le, ◌&&◌, Bool, true, false, List, [], ◌∷◌, Option, Some, None, codes, slice_index_or, map}
 use Rattle.std.specs.List.{list_all}
 use Rattle.dp_fixed.specs.Scale.{full_scale}
 use Rattle.dp_form.specs.declared.Square.{Square}

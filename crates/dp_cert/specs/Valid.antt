@@ -1,8 +1,8 @@
 -- When a certificate is valid, and else the first condition that fails.
-use Rattle.std.specs.Prelude.{◌≡◌, ◌<◌, ℕ, ℤ, pos, ◌*ℤ◌, ◌≤ℤ◌, ◌<ℤ◌, int_lt, int_le, Bool, List, [], ◌∷◌, Option, Some, None, option_map, if◌then◌else◌}
+use Rattle.std.specs.Prelude.{◌≡◌, ℕ, ℤ, pos, ◌*ℤ◌, int_lt, int_le, Bool, List, [], ◌∷◌, Option, Some, None, option_map, if◌then◌else◌}
 use Rattle.std.specs.Option.{option_or}
 use Rattle.dp_fixed.specs.Scale.{full_scale}
-use Rattle.dp_form.specs.Form.{form, IsNonNegative}
+use Rattle.dp_form.specs.Form.{form}
 use Rattle.dp_form.specs.Residual.{residual}
 use Rattle.dp_form.specs.Shown.{shortfall}
 use Rattle.dp_form.specs.declared.NotShown.{NotShown}

@@ -4,11 +4,16 @@ use dp_plant::Key;
 #[derive(Debug, PartialEq, Eq, Drop)]
 pub enum CertFault {
     /// A number lies outside its range: the key by which the plant file has it.
-    Range { name: Key },
+    Range {
+        name: Key,
+    },
     /// The rate is not below one.
     Rate,
     /// The squares don't show the form: the first row that is short, and by how much.
-    FormNotShown { row: usize, short: i128 },
+    FormNotShown {
+        row: usize,
+        short: i128,
+    },
     /// They don't show that the vertex of an axis shrinks it.
     VertexNotShown {
         axis: usize,
@@ -34,5 +39,7 @@ pub enum CertFault {
         short: i128,
     },
     /// A coordinate can grow too far for 64 bits, or its part of the form too far for 128.
-    TooWide { coordinate: usize },
+    TooWide {
+        coordinate: usize,
+    },
 }

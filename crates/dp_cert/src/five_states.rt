@@ -121,13 +121,7 @@ fn wave_row(by_p: i64, by_q: i64, correction: i64) -> [i128; 5]
     ensures value { result ≡ neg_ℤ correction ∷ pos 0 ∷ pos 0 ∷ by_p ∷ (by_q -ℤ correction) ∷ [] }
     ensures small { All (IsWithin (2 ^ 35)) result }
 {
-    five(
-        minus(correction),
-        0,
-        0,
-        wide(by_p),
-        less(by_q, correction),
-    )
+    five(minus(correction), 0, 0, wide(by_p), less(by_q, correction))
 }
 
 fn p_row(g: &Gains) -> [i128; 5]

@@ -254,9 +254,18 @@ fn samples(rt: HostRuntime) {
 
 #[test]
 fn rates_and_roundings(rt: HostRuntime) {
-    assert_eq!(rt; fault(1342177, 1 << 30, 1200000000, 27130), Some(CertFault::Rate));
-    assert_eq!(rt; fault(1342177, 1073217536, 1200000000, 27129), Some(CertFault::RoundShort));
-    assert_eq!(rt; fault(1342177, 1073217536, 0, 27130), Some(CertFault::InputShort));
+    assert_eq!(rt;
+        fault(1342177, 1 << 30, 1200000000, 27130),
+        Some(CertFault::Rate)
+    );
+    assert_eq!(rt;
+        fault(1342177, 1073217536, 1200000000, 27129),
+        Some(CertFault::RoundShort)
+    );
+    assert_eq!(rt;
+        fault(1342177, 1073217536, 0, 27130),
+        Some(CertFault::InputShort)
+    );
     assert_eq!(rt;
         fault(1342177, 1073217536, 1 << 50, 27130),
         Some(CertFault::TooWide { coordinate: 0 })
@@ -274,16 +283,17 @@ fn vertex(short: i128) -> Option<CertFault> {
 
 #[test]
 fn matrices_not_shown(rt: HostRuntime) {
-    assert_eq!(rt; fault(0, 1073217536, 1200000000, 27130), vertex(75152154165916840304));
-    assert_eq!(rt; wave_fault(536870912, 4194304, 0), vertex(2135281172997597184));
+    assert_eq!(rt;
+        fault(0, 1073217536, 1200000000, 27130),
+        vertex(75152154165916840304)
+    );
+    assert_eq!(rt;
+        wave_fault(536870912, 4194304, 0),
+        vertex(2135281172997597184)
+    );
     let first = squares(&[[300715, -1000, 5132010, -54007]]);
     let parts = Parts::Three(lists(first));
-    let short = judged(
-        1342177,
-        0,
-        0,
-        &cert(1073217536, 1200000000, 27130, parts),
-    );
+    let short = judged(1342177, 0, 0, &cert(1073217536, 1200000000, 27130, parts));
     let expected = CertFault::OutputNotShown {
         axis: 0,
         which: 0,
@@ -377,6 +387,9 @@ fn bounds(rt: HostRuntime) {
             (1789, 44462814),
             (1431, 35776654),
         ];
-        assert_eq!(rt; accepted.copy().bounds(&case).as_slice(), expected.as_slice());
+        assert_eq!(rt;
+            accepted.copy().bounds(&case).as_slice(),
+            expected.as_slice()
+        );
     }
 }

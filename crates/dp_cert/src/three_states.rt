@@ -80,11 +80,7 @@ fn output_row(g: &Gains, axis: usize, bias: i128) -> [i128; 3]
     ensures value { result ≡ entry g.now.kp axis ∷ bias ∷ entry g.now.kd axis ∷ [] }
     ensures small { All (IsWithin (2 ^ 35)) result }
 {
-    three(
-        wide(gain_of(&g.kp, axis)),
-        bias,
-        wide(gain_of(&g.kd, axis)),
-    )
+    three(wide(gain_of(&g.kp, axis)), bias, wide(gain_of(&g.kd, axis)))
 }
 
 // The rows of a vertex, by that of the velocity.

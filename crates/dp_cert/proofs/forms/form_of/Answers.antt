@@ -1,9 +1,6 @@
-use Rattle.std.proofs.Common.{◌≤◌, ◌*◌, ◌^◌, sym, subst, ap, ◌∙◌, arith, ℤ, List, FitsSigned, unsigned_abs}
-use Rattle.std.specs.Prelude.{All}
+use Rattle.std.proofs.Common.{◌^◌, arith, FitsSigned}
 use Rattle.std.proofs.lemmas.Int.{ints, to_z-of_z}
 use mir.Syntax.{w128}
-use Rattle.dp_form.specs.Vectors.{dot}
-use Rattle.dp_form.specs.Range.{IsWithin}
 use Rattle.dp_cert.proofs.Fills.{wider_all}
 use Rattle.dp_cert.proofs.forms.form_of.Goals as goal
 

@@ -1,4 +1,3 @@
-use Rattle.std.proofs.Common.{◌∙◌}
 use Rattle.dp_cert.proofs.SoundFacts.{five_bounded}
 use Rattle.dp_cert.proofs.judge.fault_of_five.Goals as goal
 

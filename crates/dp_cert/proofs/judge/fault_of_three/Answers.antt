@@ -1,4 +1,3 @@
-use Rattle.std.proofs.Common.{◌∙◌}
 use Rattle.dp_cert.proofs.SoundFacts.{three_bounded}
 use Rattle.dp_cert.proofs.judge.fault_of_three.Goals as goal
 

@@ -1,4 +1,3 @@
-use Rattle.std.proofs.Common.{◌≡◌, sym}
 use Rattle.dp_cert.proofs.SoundFacts.{sound_three, sound_five}
 use Rattle.dp_cert.proofs.judge.first_fault.Goals as goal
 

@@ -1,9 +1,4 @@
-use Rattle.std.proofs.Common.{◌≡◌, ◌≤◌, ◌^◌, None, inl, inr, lit<, get_or, [], sym, subst, ap, ◌∙◌, arith, List, pos, ℤ, FitsSigned}
-use Rattle.std.specs.Prelude.{All}
-use Rattle.std.proofs.lemmas.Int.{ints, to_z-of_z}
-use mir.Syntax.{w64}
-use Rattle.dp_form.specs.Range.{IsWithin, IsSmallSquare}
-use Rattle.dp_form.specs.declared.Square.{Square}
+use Rattle.std.proofs.Common.{inl, inr, lit<, get_or, [], arith}
 use Rattle.dp_cert.proofs.Places.{place_of}
 use Rattle.dp_cert.proofs.judge.first_output.Goals as goal
 

@@ -1,10 +1,9 @@
-use Rattle.std.proofs.Common.{◌≡◌, ◌≤◌, ◌^◌, None, inl, inr, lit<, rules, sym, subst, ap, ◌∙◌, arith, List, pos, ℤ, FitsSigned}
+use Rattle.std.proofs.Common.{◌^◌, inl, inr, lit<, rules, sym, subst, arith, List, FitsSigned}
 use Rattle.std.specs.Prelude.{All}
 use Rattle.std.proofs.lemmas.Int.{ints, to_z-of_z}
 use mir.Syntax.{w64}
 use Rattle.dp_form.specs.Range.{IsWithin, IsSmallSquare}
 use Rattle.dp_form.specs.declared.Square.{Square}
-use Rattle.dp_plant.specs.Vectors.{entry}
 use Rattle.dp_cert.proofs.judge.output_condition.Goals as goal
 
 -- the first parts are that the matrix, the vector and the squares fit the memory

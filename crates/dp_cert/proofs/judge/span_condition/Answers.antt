@@ -1,10 +1,9 @@
-use Rattle.std.proofs.Common.{◌≡◌, ◌≤◌, ◌^◌, None, refl, inl, inr, lit<, rules, sym, subst, ap, ◌∙◌, arith, List, pos, ℤ, FitsSigned}
+use Rattle.std.proofs.Common.{◌^◌, refl, inl, inr, lit<, sym, subst, arith, List, ℤ, FitsSigned}
 use Rattle.std.specs.Prelude.{All}
 use Rattle.std.proofs.lemmas.Int.{ints, to_z-of_z}
 use mir.Syntax.{w64}
 use Rattle.dp_form.specs.Range.{IsWithin, IsSmallSquare}
 use Rattle.dp_form.specs.declared.Square.{Square}
-use Rattle.dp_plant.specs.Vectors.{entry}
 use Rattle.dp_form.specs.Form.{IsNonNegative}
 use Rattle.dp_cert.specs.Matrices.{output_matrix, unit}
 use Rattle.dp_cert.proofs.judge.span_condition.Goals as goal

@@ -1,4 +1,4 @@
-use Rattle.std.proofs.Common.{◌≡◌, ◌≤◌, ◌^◌, None, inl, inr, lit<, rules, sym, subst, ap, ◌∙◌, arith, List, pos, ℤ, FitsSigned}
+use Rattle.std.proofs.Common.{◌^◌, inl, inr, lit<, rules, sym, subst, arith, List, FitsSigned}
 use Rattle.std.specs.Prelude.{All}
 use Rattle.std.proofs.lemmas.Int.{ints, to_z-of_z}
 use mir.Syntax.{w64}

@@ -1,4 +1,4 @@
-use Rattle.std.proofs.Common.{◌≡◌, None, inl, inr, lit<, subst, sym, List, ℤ}
+use Rattle.std.proofs.Common.{◌≡◌, inl, inr, lit<, subst, List, ℤ}
 use Rattle.std.proofs.lemmas.Int.{to_z-of_z}
 use Rattle.dp_form.specs.Form.{IsNonNegative}
 use Rattle.dp_cert.specs.Matrices.{output_matrix}

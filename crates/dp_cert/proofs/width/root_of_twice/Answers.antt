@@ -1,7 +1,6 @@
 use Rattle.std.proofs.Common.{arith, pos, ◌*ℤ◌, FitsSigned}
 use Rattle.std.proofs.lemmas.Int.{ints, to_z-of_z}
 use mir.Syntax.{w128}
-use Rattle.dp_plant.specs.Vectors.{entry}
 use Rattle.dp_fixed.proofs.LeastRoots.{root_is, root_small}
 use Rattle.dp_cert.proofs.width.root_of_twice.Goals as goal
 
