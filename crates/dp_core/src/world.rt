@@ -293,3 +293,6 @@ fn voters_of(plant: &Plant) -> ArrayVec<Voter, 12>
     }
     voters
 }
+
+#[cfg(test)]
+mod tests;

@@ -1,5 +1,5 @@
 ghost use Rattle.std.specs.Prelude.{◌≡◌, ◌≢◌, ◌<◌, ◌≤ℤ◌, [], ◌∷◌, Some, IsNone, IsSome};
-ghost use Rattle.dp_fixed.specs.{mid3_of};
+ghost use Rattle.dp_fixed.specs.Order.{mid3_of};
 ghost use Rattle.dp_voter.specs.declared.order.Took.{Took};
 ghost use Rattle.dp_voter.specs.Ballots.{agreed_of, held_forces};
 
@@ -26,10 +26,6 @@ impl Model for Voter {
     ghost use Rattle.std.specs.Prelude.{◌≤◌, ◌≤ℤ◌};
     ghost use Rattle.dp_voter.specs.VoterState.{VoterState};
     ghost use Rattle.dp_voter.specs.View.{view_of};
-    ghost use Rattle.dp_voter.specs.VoterState.{new_voter};
-    ghost use Rattle.dp_voter.specs.VoterState.{begun, new_voter};
-    ghost use Rattle.dp_voter.specs.Orders.{IsReasonFor, answer_of, ordered};
-    ghost use Rattle.dp_voter.specs.Ballots.{IsDue, ballot_of, voted};
 
     ghost Value = { VoterState };
 
@@ -41,6 +37,7 @@ impl Model for Voter {
 /// A place of a list of voters that is not used: a voter of a thruster that gives no force.
 impl Default for Voter {
     ghost use Rattle.std.specs.Prelude.{◌≡◌, pos};
+    ghost use Rattle.dp_voter.specs.VoterState.{new_voter};
 
     ghost is_default = { λ v. v ≡ new_voter (pos 0) (pos 0) };
 
@@ -74,6 +71,10 @@ fn agreed(first: Option<i64>, second: Option<i64>, third: Option<i64>) -> Option
 }
 
 impl Voter {
+    ghost use Rattle.dp_voter.specs.VoterState.{begun, new_voter};
+    ghost use Rattle.dp_voter.specs.Orders.{IsReasonFor, answer_of, ordered};
+    ghost use Rattle.dp_voter.specs.Ballots.{IsDue, ballot_of, voted};
+
     /// A voter of a thruster with these limits, in newtons, before its first cycle.
     pub fn new(min: i64, max: i64) -> Voter
         requires { min ≤ℤ max }
