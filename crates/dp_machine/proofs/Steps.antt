@@ -163,10 +163,6 @@ module _ (p : Plant) (at : Setpoint) (now : Estimates) (refs after : References)
   unfolding measured_by measured_at
   measured_is pair = ap (λ (vs : List Verdict). fused_place (origins_by pair p.levers vs)) verdicts_are
 
-
-
-
-
   plane_is : (sensed : Sensed) (pair : ℤ × ℤ) → sensed ≡ sensed_by now.heading now.wind f → pair ≡ pair_of (unwrap_or sensed.heading now.heading)
       → plane_cycle p at now sensed pair after ≡ plane_in p at (state_by now refs ds) f (sensed_by now.heading now.wind f)
   plane_is sensed pair hs hp =

@@ -30,7 +30,8 @@ AreShares row = (axis : ℕ) → unsigned_abs (entry row axis) ≤ 2 ^ 31
 -- the force of a thruster, by its row of shares over 2^20
 abbrev pub thrust_of : List ℤ → List ℤ → ℤ
 thrust_of demand row = floor_of
-    ((entry row 0 *ℤ entry demand 0 +ℤ entry row 1 *ℤ entry demand 1) +ℤ entry row 2 *ℤ entry demand 2)
+    ((entry row 0 *ℤ entry demand 0 +ℤ entry row 1 *ℤ entry demand 1)
+    +ℤ entry row 2 *ℤ entry demand 2)
     (pos (2 ^ 20))
 
 -- the forces of all thrusters; without a case each is zero

@@ -6,6 +6,7 @@ use Rattle.dp_plant.specs.declared.frames.Slot.{Slot}
 use Rattle.dp_plant.specs.declared.place.Place.{Place}
 use Rattle.dp_plant.specs.declared.plant.Plant.{Plant}
 use Rattle.dp_plant.specs.Ranges.{IsPlaneWithin}
+use Rattle.dp_reftest.specs.declared.kept.Kept.{Kept}
 use Rattle.dp_reftest.specs.Tested.{Tested, tested_by}
 use Rattle.dp_reftest.specs.Window.{IsKept, slot_of, window_next}
 use Rattle.dp_machine.specs.declared.estimates.Estimates.{Estimates}
@@ -23,6 +24,10 @@ use Rattle.dp_fuse.specs.Places.{fused_place, origins_by}
 use Rattle.dp_reftest.specs.Verdict.{verdict_of}
 use Rattle.dp_plant.specs.declared.references.Verdict.{Verdict}
 
+-- the windows
+abbrev pub windows_by : References → List Kept
+windows_by refs = refs.first.kept ∷ refs.second.kept ∷ refs.third.kept ∷ []
+
 -- the state with these estimates, windows and last demands
 abbrev pub state_by : Estimates → References → List (List ℤ) → State
 state_by now refs demands = record {
@@ -32,7 +37,7 @@ state_by now refs demands = record {
   heading = now.heading;
   wind = now.wind;
   lost = now.lost;
-  samples = refs.first.kept ∷ refs.second.kept ∷ refs.third.kept ∷ [];
+  samples = windows_by refs;
   demands = record { items = demands };
 }
 
@@ -66,7 +71,8 @@ pub record AreReferences (p : Plant) (next : ℕ) (refs : References) : Type 0 w
 
 -- a test after a cycle
 abbrev pub taken : Tested → ℕ → Slot Place → Tested
-taken t cycle slot = tested_by t.limits (cycle + 1) (window_next t.limits.window t.kept cycle slot.last)
+taken t cycle slot =
+    tested_by t.limits (cycle + 1) (window_next t.limits.window t.kept cycle slot.last)
 
 -- the three tests after a cycle that brought this on the wires
 pub record AreTaken (old new : References) (cycle : ℕ) (pos : List (Slot Place)) : Type 0 where
@@ -111,7 +117,8 @@ estimates_by now h plane yaw = record {
 }
 
 -- where both stay in range
-abbrev pub joined_estimates : Estimates → Sensed → Option PlaneState → Option YawState → Option Estimates
+abbrev pub joined_estimates : Estimates → Sensed → Option PlaneState → Option YawState
+    → Option Estimates
 joined_estimates now h (Some plane) (Some yaw) = Some (estimates_by now h plane yaw)
 joined_estimates now h (Some plane) None = None
 joined_estimates now h None yaw = None

@@ -42,4 +42,5 @@ run_on p sets fs s n = run_over p sets s (take n (drop s.count fs))
 unfoldable pub issue_after : Plant → Setpoints → State → List Frame → ℕ → Option Issue
 issue_after p sets s [] n = None
 issue_after p sets s (f ∷ fs) zero = issue_of (cycle_at p sets s f)
-issue_after p sets s (f ∷ fs) (suc n) = issue_after p sets (state_after s (cycle_at p sets s f)) fs n
+issue_after p sets s (f ∷ fs) (suc n) =
+    issue_after p sets (state_after s (cycle_at p sets s f)) fs n

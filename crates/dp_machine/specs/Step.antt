@@ -87,7 +87,8 @@ unfoldable pub push_by : Plant → Option Gust → List ℤ
 push_by p gust = wind_push p.wind gust
 
 -- while a set of groups is lost: from the sine pair, the wind's push, the state and the measured place, if there is one
-unfoldable pub plane_by : Plant → Setpoint → ℕ → ℤ × ℤ → List ℤ → PlaneState → Option Place → PlaneStep
+unfoldable pub plane_by : Plant → Setpoint → ℕ → ℤ × ℤ → List ℤ → PlaneState → Option Place
+    → PlaneStep
 plane_by p at lost pair push x y = plane_step p.gains (box_of (case_of p lost)) at pair push x y
 
 -- likewise, with the measured heading, if there is one
@@ -114,7 +115,8 @@ is_place_near p = is_near p.north && is_near p.east
 -- each coordinate of the plane and of yaw is within 2^56 of zero
 unfoldable pub is_within : PlaneState → YawState → Bool
 is_within x yaw =
-    ((is_place_near x.eta && is_place_near x.beta) && (is_place_near x.vel && is_place_near x.wave_p))
+    ((is_place_near x.eta && is_place_near x.beta)
+    && (is_place_near x.vel && is_place_near x.wave_p))
     && (is_place_near x.wave_q && (is_near yaw.psi && (is_near yaw.beta && is_near yaw.rate)))
 
 -- ---- the step

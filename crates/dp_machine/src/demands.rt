@@ -19,7 +19,8 @@ pub(crate) fn ring(alloc: Global) -> Result<HeapCircularBuffer<[i64; 3]>, Memory
 
 /// One demand more; of 60, the oldest falls out.
 pub(crate) fn add(ring: &mut HeapCircularBuffer<[i64; 3]>, demand: [i64; 3])
-    ensures { ring.new ≡ buffer (keep_last ring.old.capacity (ring.old.items ++ demand ∷ [])) ring.old.capacity }
+    ensures { let all = ring.old.items ++ demand ∷ [] in
+        ring.new ≡ buffer (keep_last ring.old.capacity all) ring.old.capacity }
 {
     let _oldest = ring.push_back(demand);
 }

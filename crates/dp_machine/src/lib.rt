@@ -21,6 +21,7 @@
 //! and Motion Control: nonlinear passive observer and PID law; redundant sensors as in IMO MSC.1/Circ.1580.
 #![tactic(auto)]
 
+mod advance;
 mod cycle;
 mod demands;
 mod estimates;

@@ -8,12 +8,11 @@ ghost use Rattle.dp_machine.specs.Ranges.{IsStateWithin};
 ghost use Rattle.dp_machine.specs.Step.{limits_at, step_at, step_of};
 
 use crate::cycle::Cycle;
-use crate::demands;
 use crate::estimates::Estimates;
 use crate::forces::forces_of;
 use crate::references::References;
 use crate::sensed::Sensed;
-use crate::{Issue, State};
+use crate::{Issue, State, demands};
 use circular_buffer::HeapCircularBuffer;
 use dp_observer::Diverged;
 use dp_plant::{Frame, Memory, Place, PlaneState, Plant, Setpoint};
@@ -89,14 +88,24 @@ impl Machine {
         requires setpoint { IsSetpointWithin at.now }
         ensures issued { IfOk result (λ issue. step_at self.old.plant at.now self.old.state f.now
             ≡ Some (record { issue = issue; next = self.new.state })) }
-        ensures diverged { OnErr result (step_at self.old.plant at.now self.old.state f.now ≡ None) }
+        ensures diverged { OnErr result
+            (step_at self.old.plant at.now self.old.state f.now ≡ None) }
         ensures plant { self.new.plant ≡ self.old.plant }
         ensures steps { self.new.steps ≡ one_more self.old.steps }
     {
         let sensed = Sensed::of(f, self.estimates.heading, self.estimates.wind);
-        let pair = self.trig.pair(sensed.heading.unwrap_or(self.estimates.heading));
+        let pair = self
+            .trig
+            .pair(sensed.heading.unwrap_or(self.estimates.heading));
         self.references.take(self.estimates.count, &f.pos);
-        let cycle = Cycle::of(&self.plant, at, &self.estimates, sensed, pair, &self.references);
+        let cycle = Cycle::of(
+            &self.plant,
+            at,
+            &self.estimates,
+            sensed,
+            pair,
+            &self.references,
+        );
         let demand = cycle.demand;
         let issue = Issue {
             cycle: self.estimates.count,

@@ -6,7 +6,7 @@ ghost use Rattle.dp_plant.specs.SoundPlant.{AreRefLimits};
 ghost use Rattle.dp_reftest.specs.Tested.{tested_by, untested};
 ghost use Rattle.dp_reftest.specs.Window.{IsKept};
 ghost use Rattle.dp_fuse.specs.Ranges.{IsVerdictWithin};
-ghost use Rattle.dp_machine.specs.Parts.{AreTaken, verdicts_by};
+ghost use Rattle.dp_machine.specs.Parts.{AreTaken, windows_by, verdicts_by};
 ghost use Rattle.dp_machine.specs.Step.{kept_at, limits_in};
 
 use dp_plant::{Memory, Place, RefLimits, Slot, Verdict};
@@ -57,15 +57,19 @@ impl References {
         ensures value { result ≡ verdicts_by self.now }
         ensures within { All IsVerdictWithin result }
     {
-        [self.first.usable(), self.second.usable(), self.third.usable()]
+        [
+            self.first.usable(),
+            self.second.usable(),
+            self.third.usable(),
+        ]
     }
 
     /// The windows.
     pub(crate) fn kept(&self) -> [Kept; 3]
-        ensures value { result ≡ self.now.first.kept ∷ self.now.second.kept ∷ self.now.third.kept ∷ [] }
-        ensures first { IsKept self.now.first.limits.window self.now.first.next (kept_at result 0) }
-        ensures second { IsKept self.now.second.limits.window self.now.second.next (kept_at result 1) }
-        ensures third { IsKept self.now.third.limits.window self.now.third.next (kept_at result 2) }
+        ensures value { result ≡ windows_by self.now }
+        ensures first { let t = self.now.first in IsKept t.limits.window t.next (kept_at result 0) }
+        ensures second { let t = self.now.second in IsKept t.limits.window t.next (kept_at result 1) }
+        ensures third { let t = self.now.third in IsKept t.limits.window t.next (kept_at result 2) }
     {
         [self.first.kept(), self.second.kept(), self.third.kept()]
     }
@@ -76,9 +80,10 @@ impl References {
         requires second { IsKept self.old.second.limits.window next (kept_at kept.now 1) }
         requires third { IsKept self.old.third.limits.window next (kept_at kept.now 2) }
         ensures first { self.new.first ≡ tested_by self.old.first.limits next (kept_at kept.now 0) }
-        ensures second { self.new.second ≡ tested_by self.old.second.limits next (kept_at kept.now 1) }
+        ensures second { self.new.second
+            ≡ tested_by self.old.second.limits next (kept_at kept.now 1) }
         ensures third { self.new.third ≡ tested_by self.old.third.limits next (kept_at kept.now 2) }
-        ensures samples { self.new.first.kept ∷ self.new.second.kept ∷ self.new.third.kept ∷ [] ≡ kept.now }
+        ensures samples { windows_by self.new ≡ kept.now }
     {
         let [first, second, third] = kept;
         self.first.set(next, first);

@@ -89,7 +89,10 @@ fn comes_back_from_a_metre_north(rt: HostRuntime) {
         let plane = machine.state().plane;
         assert_eq!(rt; [plane.eta.north, plane.beta.north, plane.vel.north], north);
     }
-    assert_eq!(rt; demand(&mut machine, at, None, None), Some([-131_397, 0, 0]));
+    assert_eq!(rt;
+        demand(&mut machine, at, None, None),
+        Some([-131_397, 0, 0])
+    );
     assert_eq!(rt; machine.count(), 3);
     assert_eq!(rt; machine.steps(), 3);
 }
@@ -102,6 +105,9 @@ fn meets_the_wind(rt: HostRuntime) {
         angle: 4500,
         speed: 5144,
     });
-    assert_eq!(rt; demand(&mut machine, None, None, gust), Some([3_280_541, 4_037_588, 0]));
+    assert_eq!(rt;
+        demand(&mut machine, None, None, gust),
+        Some([3_280_541, 4_037_588, 0])
+    );
     assert_eq!(rt; machine.state().wind, 4500);
 }

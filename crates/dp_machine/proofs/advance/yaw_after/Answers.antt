@@ -1,7 +1,7 @@
 use Rattle.std.proofs.Common.{◌≡◌, refl, rules, ◌∙◌, w64, of_z, to_z}
 use Rattle.std.proofs.lemmas.Int.{to_z-of_z}
 use Rattle.dp_machine.proofs.YawRanges.{next_stays, same_next}
-use Rattle.dp_machine.proofs.cycle.yaw_after.Goals as goal
+use Rattle.dp_machine.proofs.advance.yaw_after.Goals as goal
 
 pub returns-in-Ok-clause-value : goal.returns-in-Ok-clause-value
 returns-in-Ok-clause-value c =
