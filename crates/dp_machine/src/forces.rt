@@ -71,16 +71,10 @@ fn no_thrusts(thrusters: &ArrayVec<Thruster, 12>) -> ArrayVec<i64, 12>
     ensures { result.items ≡ map (λ t. pos 0) thrusters.now.items }
 {
     let mut forces = ArrayVec::new();
-    for thruster in thrusters.as_slice() {
-        forces.push(no_thrust(thruster));
+    for _ in thrusters.as_slice() {
+        forces.push(0);
     }
     forces
-}
-
-fn no_thrust(_: &Thruster) -> i64
-    ensures { result ≡ pos 0 }
-{
-    0
 }
 
 /// The force of a thruster, by its row of shares over 2^20.
