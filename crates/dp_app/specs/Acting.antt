@@ -1,4 +1,5 @@
--- The events of a cycle, by the acts of a script. Events are listed newest first: each definition says what comes after `es`.
+-- The events of a cycle, by the acts of a script. Events are listed newest first: each definition
+-- says what comes after `es`.
 use Rattle.std.specs.Prelude.{ℕ, zero, suc, nat_lt, List, [], ◌∷◌, length, if◌then◌else◌}
 use Rattle.dp_plant.specs.declared.frames.Frame.{Frame}
 use Rattle.dp_plant.specs.declared.plant.Plant.{Plant}

@@ -12,7 +12,8 @@ use Rattle.dp_report.specs.Block.{BlockValue, block_text}
 use Rattle.dp_script.specs.declared.timed_act.TimedAct.{TimedAct}
 use Rattle.dp_app.specs.Acting.{cycled, voters}
 
--- at the end of a cycle: how each computer takes part, and the ballot of each of n voters and the orders that it took
+-- at the end of a cycle: how each computer takes part, and the ballot of each of n voters and the
+-- orders that it took
 unfoldable pub block_at : ℕ → ℕ → List Moment → BlockValue
 block_at n cycle h = record {
   cycle = cycle;

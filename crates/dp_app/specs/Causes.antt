@@ -1,4 +1,5 @@
--- Why a fault of reading may be answered: the files that a command reads are listed in the order in which it reads them.
+-- Why a fault of reading may be answered: the files that a command reads are listed in the order in
+-- which it reads them.
 use Rattle.std.specs.Prelude.{◌≡◌, ◌≢◌, ◌⊎◌, ℕ, Bool, List, [], ◌∷◌, Option, Some, None, IfSome, IsSomeAnd, IsTrue}
 use Rattle.dp_shell.specs.Faults.{Rose}
 use Rattle.dp_shell.specs.Texts.{Files, text_named}
@@ -12,7 +13,8 @@ use Rattle.dp_app.specs.Words.{FileNamed}
 abbrev pub RoseAt : (List ℕ → ℕ) → (List ℕ → ℕ) → List ℕ → Type 0
 RoseAt before now name = Rose (before name) (now name)
 
--- the fault of a file that is judged before the next one is read; a record is judged as it is played
+-- the fault of a file that is judged before the next one is read; a record is judged as it is
+-- played
 abbrev pub fault_of_text : File → List ℕ → Option Fault
 fault_of_text Script text = script_fault_of (prefix_of script_limit text)
 fault_of_text Record text = None

@@ -41,7 +41,7 @@ file_line what file = codes "fault " ++ (what ++ (codes " " ++ (file_word file +
 abbrev pub named_line : File → ℕ → List ℕ → List ℕ
 named_line file number kind =
     codes "fault " ++ (file_word file
-        ++ (codes " " ++ (decimal number ++ (codes " " ++ (kind ++ codes "\n")))))
+    ++ (codes " " ++ (decimal number ++ (codes " " ++ (kind ++ codes "\n")))))
 
 unfoldable pub fault_line : Fault → List ℕ
 fault_line Usage = codes "fault usage\n"

@@ -14,13 +14,14 @@ use Rattle.dp_app.specs.Acting.{played}
 use Rattle.dp_app.specs.Blocks.{blocks}
 use Rattle.dp_app.specs.Outcome.{Play}
 
--- each fresh force in the block of cycle n is that of the reference run, one computer alone over the frames up to n, where at most one
+-- each fresh force in the block of cycle n is that of the reference run, one computer alone over
+-- the frames up to n, where at most one
 -- computer is faulty in any cycle up to n
 abbrev pub FreshForcesAreReference : Plant → List TimedAct → List Frame → List BlockValue → Type 0
 FreshForcesAreReference p script fs bs = (n k : ℕ) (b : BlockValue) (f : ℤ)
     → AtMostOneFaulty (history p (played p script (take (n + 1) fs) []))
     → slice_get bs n ≡ Some b → slice_get b.ballots k ≡ Some (Fresh f)
-        → force_of p (own_setpoints p) (take (n + 1) fs) n k ≡ Some f
+    → force_of p (own_setpoints p) (take (n + 1) fs) n k ≡ Some f
 
 -- of what is played, if anything is
 abbrev pub TellsReferenceForces : Result Play Fault → Type 0

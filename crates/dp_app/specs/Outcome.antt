@@ -33,7 +33,8 @@ pub record Outcome : Type 0 where
   pub status : Status
   pub text : List ℕ
 
--- what is played: on a plant, a script over the frames of a record, up to the fault that it has, if any
+-- what is played: on a plant, a script over the frames of a record, up to the fault that it has, if
+-- any
 pub record Play : Type 0 where
   pub plant : Plant
   pub script : List TimedAct
@@ -87,13 +88,15 @@ abbrev pub refused_by : Refusal → Fault
 refused_by (refusal.Faulty line kind) = BadRecord line kind
 refused_by (refusal.TooMany line cycle) = LongCycles cycle
 
--- the fault of a record: that of its first line that can't be taken, else that it goes on past its limit
+-- the fault of a record: that of its first line that can't be taken, else that it goes on past its
+-- limit
 abbrev pub record_fault : Option Refusal → Bool → Option Fault
 record_fault (Some r) goes_on = Some (refused_by r)
 record_fault None true = Some (Long Record)
 record_fault None false = None
 
--- the frames that are played: all of a record, or where it is refused those of the cycles before that of its last good line
+-- the frames that are played: all of a record, or where it is refused those of the cycles before
+-- that of its last good line
 abbrev pub frames_played : Settings → List (List ℕ) → Option Fault → List Frame
 frames_played s lines fault = if is_some fault then frames_so_far s lines else record_frames s lines
 
@@ -102,8 +105,13 @@ unfoldable pub play_of : Plant → List TimedAct → Prefix → Play
 play_of p script f =
     let s = settings_of p in
     let fault = record_fault (first_refusal s (lines_of f)) f.goes_on in
-    record { plant = p; script = script; frames = frames_played s
-        (lines_of f) fault; fault = fault }
+    record {
+      plant = p;
+      script = script;
+      frames = frames_played s
+          (lines_of f) fault;
+      fault = fault;
+    }
 
 -- the most bytes of a record, 2^36
 abbrev pub record_limit : ℕ
@@ -141,7 +149,7 @@ refused_or None later = later
 abbrev pub with_script : Option (List ℕ) → Option (List ℕ) → Result Play Fault
 with_script (Some text) record_text =
     refused_or (script_fault_of (prefix_of script_limit text))
-        (with_record (script_of (prefix_of script_limit text)) record_text)
+    (with_record (script_of (prefix_of script_limit text)) record_text)
 with_script None record_text = Err (Read Script)
 
 -- ---- all of it

@@ -46,4 +46,4 @@ abbrev pub StopsShowing : Player → Option (List ℕ) → Option (List ℕ) →
 StopsShowing old old_taken new_taken before after =
     (p : Plant) (script : List TimedAct) (start : Option (List ℕ))
     → HasShown p script start old_taken old before
-        → AppendsCut start new_taken (text_played p script after)
+    → AppendsCut start new_taken (text_played p script after)

@@ -13,7 +13,8 @@ fault_in (feed.TooMany line cycle) = Some (LongCycles cycle)
 fault_in (feed.Closed frame empty) = None
 fault_in feed.More = None
 
--- the frame that it closes, if any, is that of cycle n, and in range with the empty ones that follow
+-- the frame that it closes, if any, is that of cycle n, and in range with the empty ones that
+-- follow
 abbrev pub IsNext : ℕ → Feed → Type 0
 IsNext n (feed.Closed frame empty) =
     (frame.cycle ≡ n) × IsFrameWithin frame × (frame.cycle + empty < 2 ^ 20)

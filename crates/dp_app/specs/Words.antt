@@ -16,7 +16,7 @@ names_in (verb ∷ []) = None
 names_in (verb ∷ first ∷ []) = None
 names_in (verb ∷ first ∷ second ∷ []) =
     if bytes_eq verb (codes "replay") then Some
-        (record { record_name = first; script_name = second }) else None
+    (record { record_name = first; script_name = second }) else None
 names_in (verb ∷ first ∷ second ∷ third ∷ words) = None
 
 -- a file that is read, and its name
@@ -28,7 +28,7 @@ pub record FileNamed : Type 0 where
 abbrev pub files_of : Names → List FileNamed
 files_of names =
     record { file = Script; name = names.script_name }
-        ∷ record { file = Record; name = names.record_name } ∷ []
+    ∷ record { file = Record; name = names.record_name } ∷ []
 
 -- the files that the words have read, in this order; none where they are no command
 abbrev pub files_read : Option Names → List FileNamed

@@ -9,7 +9,8 @@ use Rattle.dp_app.specs.declared.status.Status.{Status}
 use Rattle.dp_app.specs.declared.status.Status.TheVariants as status
 use Rattle.dp_app.specs.FaultLines.{fault_line, fault_status}
 
--- a fault that words and files don't give may be told: a read of its file failed; want of memory needs no cause
+-- a fault that words and files don't give may be told: a read of its file failed; want of memory
+-- needs no cause
 abbrev pub MayBeTold : (File → Type 0) → Fault → Type 0
 MayBeTold failed (Read file) = failed file
 MayBeTold failed Memory = Unit {0}
@@ -19,12 +20,14 @@ MayBeTold failed (BadScript line kind) = ⊥
 MayBeTold failed (BadRecord line kind) = ⊥
 MayBeTold failed (LongCycles cycle) = ⊥
 
--- the line of such a fault was being written, after a prefix of the text: a prefix of it was taken, and not all of it
+-- the line of such a fault was being written, after a prefix of the text: a prefix of it was taken,
+-- and not all of it
 abbrev pub StopsInLine : (File → Type 0) → Option (List ℕ) → Option (List ℕ) → List ℕ → Type 0
 StopsInLine failed old new text =
     (fault : Fault) × MayBeTold failed fault × CutInLine old new text (fault_line fault)
 
--- a status of the words and files: all of the outcome's text. A failed read: its file's line alone. A failed write: the text was being
+-- a status of the words and files: all of the outcome's text. A failed read: its file's line alone.
+-- A failed write: the text was being
 -- written, or such a line. Want of memory: the same, or all of the line that says so
 abbrev pub HasWritten : (File → Type 0) → List ℕ → Status → Option (List ℕ) → Option (List ℕ)
     → Type 0
@@ -34,7 +37,7 @@ HasWritten failed text status.WriteFault old new =
     AppendsCut old new text ⊎ StopsInLine failed old new text
 HasWritten failed text status.Memory old new =
     AppendsCut old new text ⊎ StopsInLine failed old new text
-        ⊎ EndsWithLine old new text (fault_line Memory)
+    ⊎ EndsWithLine old new text (fault_line Memory)
 HasWritten failed text status.Ok old new = Appends old new text
 HasWritten failed text status.Usage old new = Appends old new text
 HasWritten failed text status.BadPlant old new = Appends old new text
@@ -50,7 +53,8 @@ pub record EndsWithFault (s : Status) (old new : Option (List ℕ)) : Type 0 whe
   pub is : fault_status fault ≡ s
   pub taken : Appends old new (before ++ fault_line fault)
 
--- each status but Ok, WriteFault and Memory is announced by a fault line, which comes last; Usage by `fault usage` alone
+-- each status but Ok, WriteFault and Memory is announced by a fault line, which comes last; Usage
+-- by `fault usage` alone
 abbrev pub IsAnnounced : Status → Option (List ℕ) → Option (List ℕ) → Type 0
 IsAnnounced status.Ok old new = Unit {0}
 IsAnnounced status.WriteFault old new = Unit {0}

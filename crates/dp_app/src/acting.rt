@@ -2,9 +2,8 @@
 ghost use Rattle.std.specs.Prelude.{◌≡◌, ◌<◌, ◌≤◌, List};
 ghost use Rattle.dp_core.specs.declared.event.Event.{Event};
 ghost use Rattle.dp_core.specs.Represents.{Represents};
-ghost use Rattle.dp_script.specs.Acts.{IsWithin};
-ghost use Rattle.dp_script.specs.TimedActs.{acts_at};
-ghost use Rattle.dp_app.specs.Acting.{acted, all_acted, ordered, voters};
+ghost use Rattle.dp_script.specs.{IsWithin, acts_at};
+ghost use Rattle.dp_app.specs.{acted, all_acted, ordered, voters};
 
 use dp_core::World;
 use dp_plant::{Place, Plant};

@@ -2,13 +2,12 @@
 ghost use Rattle.std.specs.Prelude.{◌≡◌, List, length, map};
 ghost use Rattle.std.specs.List.{range_with_len};
 ghost use Rattle.dp_core.specs.declared.event.Event.{Event};
-ghost use Rattle.dp_core.specs.History.{history};
+ghost use Rattle.dp_core.specs.{history, taken_forces};
 ghost use Rattle.dp_core.specs.Represents.{Represents};
-ghost use Rattle.dp_core.specs.Voting.{ballot, taken_forces};
-ghost use Rattle.dp_plant.specs.FrameRanges.{IsFrameWithin};
-ghost use Rattle.dp_report.specs.Block.{block_text};
-ghost use Rattle.dp_app.specs.Acting.{cycled, voted, voters};
-ghost use Rattle.dp_app.specs.Blocks.{block_of};
+ghost use Rattle.dp_core.specs.Voting.{ballot};
+ghost use Rattle.dp_plant.specs.{IsFrameWithin};
+ghost use Rattle.dp_report.specs.{block_text};
+ghost use Rattle.dp_app.specs.{block_of, cycled, voted, voters};
 
 use crate::acting::{perform_all, voters_of};
 use arrayvec::ArrayVec;
@@ -32,7 +31,7 @@ pub fn cycle(
         → Represents (cycled plant.now script.now frame.now es) world.new }
     ensures block { (es : List Event) → Represents es world.old
         → into.new.items ≡ block_text (block_of plant.now frame.now.cycle
-            (cycled plant.now script.now frame.now es)) }
+        (cycled plant.now script.now frame.now es)) }
     ensures plant { world.new.plant ≡ plant.now }
 {
     world.wire(frame);
@@ -54,7 +53,7 @@ fn vote_all(world: &mut World, plant: &Plant) -> ArrayVec<Ballot, 12>
         → Represents (voted (voters plant.now) es) world.new }
     ensures ballots { (es : List Event) → Represents es world.old
         → result.items ≡ map (λ k. ballot k (history plant.now (voted (voters plant.now) es)))
-            (range_with_len 0 (voters plant.now)) }
+        (range_with_len 0 (voters plant.now)) }
     ensures count { length result.items ≡ voters plant.now }
     ensures plant { world.new.plant ≡ plant.now }
 {

@@ -1,11 +1,8 @@
 //! How a run ends: its last line, and the status that goes with it.
 ghost use Rattle.std.specs.Prelude.{◌≡◌, ◌≢◌, ◌⊎◌, ◌≤◌, ◌++◌, ℕ, List, Option};
 ghost use Rattle.std.specs.Io.KnownBytes.{Appends};
-ghost use Rattle.dp_shell.specs.Faults.{Rose};
-ghost use Rattle.dp_shell.specs.Taken.{AppendsCut};
-ghost use Rattle.dp_app.specs.FaultLines.{fault_line, fault_status};
-ghost use Rattle.dp_app.specs.Outcome.{IsOfInputs, IsOfRecord, end_line, last_line, last_status};
-ghost use Rattle.dp_app.specs.Written.{HasWritten, IsAnnounced, LineEnds, NoReadFailed};
+ghost use Rattle.dp_shell.specs.{AppendsCut, Rose};
+ghost use Rattle.dp_app.specs.{HasWritten, IsAnnounced, IsOfInputs, IsOfRecord, LineEnds, NoReadFailed, end_line, fault_line, fault_status, last_line, last_status};
 
 use crate::Status;
 use crate::fault::{Fault, LINE};

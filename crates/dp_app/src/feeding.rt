@@ -1,14 +1,10 @@
 //! The bytes of a record are fed to its reader, and what it answers is played.
 ghost use Rattle.std.specs.Prelude.{◌≡◌, ◌<◌, ◌≤◌, ◌+◌, ◌^◌, ◌∷◌, ◌++◌, [], List, ℕ, IfOk, OnOk, OnErr, None, false, length};
-ghost use Rattle.dp_shell.specs.Faults.{HasWriteCause};
-ghost use Rattle.dp_frame.specs.Cycles.{frames_so_far, record_frames};
-ghost use Rattle.dp_frame.specs.Feeds.{answer_to, given, is_closed};
-ghost use Rattle.dp_frame.specs.Record.{all_lines, ended_lines, first_refusal};
-ghost use Rattle.dp_frame.specs.Represents.{IsOpen, Represents};
+ghost use Rattle.dp_shell.specs.{HasWriteCause};
+ghost use Rattle.dp_frame.specs.{IsOpen, all_lines, answer_to, ended_lines, first_refusal, frames_so_far, given, is_closed, record_frames};
+ghost use Rattle.dp_frame.specs.Represents.{Represents};
 ghost use Rattle.dp_plant.specs.declared.frames.Frame.{Frame};
-ghost use Rattle.dp_app.specs.Outcome.{record_fault};
-ghost use Rattle.dp_app.specs.Playing.{IsPlaying, Shows, StopsShowing};
-ghost use Rattle.dp_app.specs.ReaderAnswers.{fault_in};
+ghost use Rattle.dp_app.specs.{IsPlaying, Shows, StopsShowing, fault_in, record_fault};
 
 use crate::fault::Fault;
 use crate::player::Player;
@@ -30,18 +26,18 @@ pub fn play_text<K: Sink>(
     ensures fault { (before : List ℕ) → Represents lines.old before
         → first_refusal (lines.old.progress.settings) (ended_lines before) ≡ None
         → IfOk result (λ fault. fault
-            ≡ record_fault (first_refusal (lines.old.progress.settings)
-                (ended_lines (before ++ text.now))) false) }
+        ≡ record_fault (first_refusal (lines.old.progress.settings)
+        (ended_lines (before ++ text.now))) false) }
     ensures ok { (before : List ℕ) → Represents lines.old before
         → first_refusal (lines.old.progress.settings) (ended_lines before) ≡ None
         → OnOk result (Shows player.old player.new (K.taken out.old) (K.taken out.new)
-            (frames_so_far (lines.old.progress.settings) (ended_lines before))
-            (frames_so_far (lines.old.progress.settings) (ended_lines (before ++ text.now)))) }
+        (frames_so_far (lines.old.progress.settings) (ended_lines before))
+        (frames_so_far (lines.old.progress.settings) (ended_lines (before ++ text.now)))) }
     ensures err { (before : List ℕ) → Represents lines.old before
         → first_refusal (lines.old.progress.settings) (ended_lines before) ≡ None
         → OnErr result (StopsShowing player.old (K.taken out.old) (K.taken out.new)
-            (frames_so_far (lines.old.progress.settings) (ended_lines before))
-            (frames_so_far (lines.old.progress.settings) (ended_lines (before ++ text.now)))) }
+        (frames_so_far (lines.old.progress.settings) (ended_lines before))
+        (frames_so_far (lines.old.progress.settings) (ended_lines (before ++ text.now)))) }
     ensures cause { HasWriteCause (K.faults out.old) (K.faults out.new) result }
 
     // Where there is no fault the record can go on.
@@ -77,13 +73,13 @@ fn play_byte<K: Sink>(
     requires few { lines.old.bytes < 2 ^ 40 }
     ensures fault { (text : List ℕ) → Represents lines.old text
         → IfOk result (λ fault. fault ≡ fault_in
-            (answer_to (lines.old.progress.settings) text byte)) }
+        (answer_to (lines.old.progress.settings) text byte)) }
     ensures ok { (text : List ℕ) → Represents lines.old text → (fs : List Frame)
         → OnOk result (Shows player.old player.new (K.taken out.old) (K.taken out.new)
-            fs (fs ++ given (answer_to (lines.old.progress.settings) text byte))) }
+        fs (fs ++ given (answer_to (lines.old.progress.settings) text byte))) }
     ensures err { (text : List ℕ) → Represents lines.old text → (fs : List Frame)
         → OnErr result (StopsShowing player.old (K.taken out.old) (K.taken out.new)
-            fs (fs ++ given (answer_to (lines.old.progress.settings) text byte))) }
+        fs (fs ++ given (answer_to (lines.old.progress.settings) text byte))) }
     ensures cause { HasWriteCause (K.faults out.old) (K.faults out.new) result }
     ensures represents { (text : List ℕ) → Represents lines.old text
         → Represents lines.new (text ++ byte ∷ []) }
@@ -113,12 +109,12 @@ pub fn play_end<K: Sink>(
         ≡ record_fault (first_refusal (lines.old.progress.settings) (all_lines text)) false) }
     ensures ok { (text : List ℕ) → Represents lines.old text
         → OnOk result (Shows player.old player.new (K.taken out.old) (K.taken out.new)
-            (frames_so_far (lines.old.progress.settings) (ended_lines text))
-            (record_frames (lines.old.progress.settings) (all_lines text))) }
+        (frames_so_far (lines.old.progress.settings) (ended_lines text))
+        (record_frames (lines.old.progress.settings) (all_lines text))) }
     ensures err { (text : List ℕ) → Represents lines.old text
         → OnErr result (StopsShowing player.old (K.taken out.old) (K.taken out.new)
-            (frames_so_far (lines.old.progress.settings) (ended_lines text))
-            (record_frames (lines.old.progress.settings) (all_lines text))) }
+        (frames_so_far (lines.old.progress.settings) (ended_lines text))
+        (record_frames (lines.old.progress.settings) (all_lines text))) }
     ensures cause { HasWriteCause (K.faults out.old) (K.faults out.new) result }
 {
     loop {

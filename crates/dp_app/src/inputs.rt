@@ -2,8 +2,7 @@
 ghost use Rattle.std.specs.Prelude.{◌≡◌, ◌≢◌, ◌⊎◌, ◌≤◌, [], Some, IfErr, IfOk, IfSome, IsErrOf, IsNone, IsSomeAnd, None, Ok, Err, length};
 ghost use Rattle.dp_shell.specs.{NoneFalls, OthersStay, texts_of, text_named};
 ghost use Rattle.dp_core.specs.Represents.{Represents};
-ghost use Rattle.dp_plant.specs.BuiltInPlant.{built_in_plant};
-ghost use Rattle.dp_plant.specs.SoundPlant.{IsSoundPlant};
+ghost use Rattle.dp_plant.specs.{IsSoundPlant, built_in_plant};
 ghost use Rattle.dp_app.specs.declared.fault.File.{File as FileKind};
 ghost use Rattle.dp_app.specs.{HasPlayed, IsOfInputs, OthersKeep, ReadFailed, RoseAt, fault_status};
 ghost use Rattle.dp_app.specs.{files_of, files_read, limit_of, names_in, play_of, play_or_fault, play_with};
@@ -45,7 +44,7 @@ pub fn gather<F: Shelf>(alloc: Global, words: &[&str], shelf: &mut F) -> Result<
     // A refusal that words and files give is theirs.
     ensures err { IfErr result (λ fault. IsOfInputs (fault_status fault)
         → IfSome (F.files shelf.old) (λ files. play_or_fault (texts_of words.now) files
-            ≡ Err fault)) }
+        ≡ Err fault)) }
     ensures usage { IsErrOf result Fault.Usage → IsNone (names_in (texts_of words.now)) }
     ensures no_command { IsNone (names_in (texts_of words.now)) → IsErrOf result Fault.Usage }
 
@@ -53,7 +52,7 @@ pub fn gather<F: Shelf>(alloc: Global, words: &[&str], shelf: &mut F) -> Result<
     ensures read { (file : FileKind) → IsErrOf result (Fault.Read file)
         → ReadFailed (F.files shelf.old)
         (F.faults shelf.old) (F.faults shelf.new)
-            (files_read (names_in (texts_of words.now))) file }
+        (files_read (names_in (texts_of words.now))) file }
 
     ensures files { F.files shelf.new ≡ F.files shelf.old }
     ensures others { OthersKeep (F.apart shelf.old) (files_read (names_in (texts_of words.now)))
@@ -75,7 +74,7 @@ fn gather_named<F: Shelf>(alloc: Global, shelf: &mut F, names: &Names) -> Result
     ensures size { IfOk result (λ i. length i.record.text.items ≤ limit_of File.Record) }
     ensures err { IfErr result (λ fault. IsOfInputs (fault_status fault)
         → IfSome (F.files shelf.old) (λ files. play_with files (shown_names names.now)
-            ≡ Err fault)) }
+        ≡ Err fault)) }
     ensures command { IfErr result (λ fault. fault ≢ Fault.Usage) }
     ensures read { (file : FileKind) → IsErrOf result (Fault.Read file)
         → ReadFailed (F.files shelf.old)
@@ -95,10 +94,15 @@ fn gather_named<F: Shelf>(alloc: Global, shelf: &mut F, names: &Names) -> Result
 }
 
 /// Reads a file up to its limit.
-fn read_part<F: Shelf>(alloc: Global, shelf: &mut F, file: File, name: &str) -> Result<FilePart, Fault>
+fn read_part<F: Shelf>(
+    alloc: Global,
+    shelf: &mut F,
+    file: File,
+    name: &str,
+) -> Result<FilePart, Fault>
     ensures ok { IfOk result (λ part. IfSome (F.files shelf.old) (λ files.
         IsSomeAnd (text_named files name.now)
-            (λ text. prefix_read part ≡ prefix_of (limit_of file) text))) }
+        (λ text. prefix_read part ≡ prefix_of (limit_of file) text))) }
     ensures size { IfOk result (λ part. length part.text.items ≤ limit_of file) }
     ensures err { IfErr result (λ fault. (fault ≡ Fault.Read file) ⊎ (fault ≡ Fault.Memory)) }
     ensures failed { IsErrOf result (Fault.Read file)
@@ -131,7 +135,7 @@ fn limit_of(file: File) -> usize
 fn judge_script(alloc: Global, part: &FilePart) -> Result<Script, Fault>
     ensures ok { IfOk result (λ script.
         (script_fault_of (prefix_read part.now) ≡ None)
-            × (script ≡ script_of (prefix_read part.now))) }
+        × (script ≡ script_of (prefix_read part.now))) }
     ensures err { IfErr result (λ fault. fault ≢ Fault.Memory
         → script_fault_of (prefix_read part.now) ≡ Some fault) }
     ensures other { IfErr result (λ fault. (fault ≢ Fault.Usage)

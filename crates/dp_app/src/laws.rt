@@ -1,8 +1,7 @@
 //! What holds of every replay.
 ghost use Rattle.std.specs.Prelude.{Result};
 ghost use Rattle.dp_app.specs.declared.fault.Fault.{Fault};
-ghost use Rattle.dp_app.specs.Headline.{TellsReferenceForces};
-ghost use Rattle.dp_app.specs.Outcome.{Play};
+ghost use Rattle.dp_app.specs.{Play, TellsReferenceForces};
 
 use dp_core::laws::fresh_is_reference;
 

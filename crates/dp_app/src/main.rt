@@ -6,7 +6,7 @@
 
 ghost use Rattle.std.specs.Prelude.{◌≡◌};
 ghost use Rattle.std.specs.Process.{exit_status};
-ghost use Rattle.dp_app.specs.Status.{code_of};
+ghost use Rattle.dp_app.specs.{code_of};
 
 mod acting;
 mod cycle;

@@ -1,8 +1,8 @@
 //! What plays a record: a plant, a script and a world, one cycle for each frame, and the block of each.
 ghost use Rattle.std.specs.Prelude.{◌≡◌, ◌+◌, ◌<◌, ◌^◌, ◌∷◌, [], ◌++◌, List, IfOk, OnErr, OnOk, length};
-ghost use Rattle.dp_shell.specs.Faults.{HasWriteCause};
-ghost use Rattle.dp_frame.specs.Feeds.{given};
-ghost use Rattle.dp_plant.specs.FrameRanges.{IsFrameWithin};
+ghost use Rattle.dp_shell.specs.{HasWriteCause};
+ghost use Rattle.dp_frame.specs.{given};
+ghost use Rattle.dp_plant.specs.{IsFrameWithin};
 ghost use Rattle.dp_plant.specs.declared.frames.Frame.{Frame};
 ghost use Rattle.dp_app.specs.ReaderAnswers.{IsNext, fault_in};
 ghost use Rattle.dp_app.specs.Playing.{IsPlaying, Shows, StopsShowing};
@@ -28,17 +28,13 @@ pub struct Player {
 
 impl Player {
     /// Plays what the reader of a record answers to a byte, or to its end, and answers the fault that this names, if any.
-    pub fn play_feed<K: Sink>(
-        &mut self,
-        out: &mut K,
-        feed: &Feed,
-    ) -> Result<Option<Fault>, Trouble>
+    pub fn play_feed<K: Sink>(&mut self, out: &mut K, feed: &Feed) -> Result<Option<Fault>, Trouble>
         requires playing { IsPlaying self.old }
         requires next { IsNext self.old.count feed.now }
         ensures fault { IfOk result (λ fault. fault ≡ fault_in feed.now) }
         ensures ok { (fs : List Frame) → OnOk result
             (Shows self.old self.new (K.taken out.old) (K.taken out.new) fs
-                (fs ++ given feed.now)) }
+            (fs ++ given feed.now)) }
         ensures err { (fs : List Frame) → OnErr result
             (StopsShowing self.old (K.taken out.old) (K.taken out.new) fs (fs ++ given feed.now)) }
         ensures playing { IsPlaying self.new }
@@ -57,22 +53,17 @@ impl Player {
     }
 
     /// Plays a frame and the empty ones that follow it.
-    fn play_gap<K: Sink>(
-        &mut self,
-        out: &mut K,
-        frame: &Frame,
-        empty: u64,
-    ) -> Result<(), Trouble>
+    fn play_gap<K: Sink>(&mut self, out: &mut K, frame: &Frame, empty: u64) -> Result<(), Trouble>
         requires playing { IsPlaying self.old }
         requires next { frame.now.cycle ≡ self.old.count }
         requires within { IsFrameWithin frame.now }
         requires few { frame.now.cycle + empty < 2 ^ 20 }
         ensures ok { (fs : List Frame) → OnOk result
             (Shows self.old self.new (K.taken out.old) (K.taken out.new) fs
-                (fs ++ given (Feed.Closed frame.now empty))) }
+            (fs ++ given (Feed.Closed frame.now empty))) }
         ensures err { (fs : List Frame) → OnErr result
             (StopsShowing self.old (K.taken out.old) (K.taken out.new) fs
-                (fs ++ given (Feed.Closed frame.now empty))) }
+            (fs ++ given (Feed.Closed frame.now empty))) }
         ensures playing { IsPlaying self.new }
         ensures count { OnOk result (self.new.count
             ≡ self.old.count + length (given (Feed.Closed frame.now empty))) }
@@ -92,14 +83,20 @@ impl Player {
         requires within { IsFrameWithin frame.now }
         ensures ok { (fs : List Frame) → OnOk result
             (Shows self.old self.new (K.taken out.old) (K.taken out.new) fs
-                (fs ++ frame.now ∷ [])) }
+            (fs ++ frame.now ∷ [])) }
         ensures err { (fs : List Frame) → OnErr result
             (StopsShowing self.old (K.taken out.old) (K.taken out.new) fs (fs ++ frame.now ∷ [])) }
         ensures playing { IsPlaying self.new }
         ensures count { self.new.count ≡ self.old.count + 1 }
         ensures cause { HasWriteCause (K.faults out.old) (K.faults out.new) result }
     {
-        cycle(&mut self.world, &self.plant, &self.script, frame, &mut self.block);
+        cycle(
+            &mut self.world,
+            &self.plant,
+            &self.script,
+            frame,
+            &mut self.block,
+        );
         self.count += 1;
         write_all(out, &self.block)
     }

@@ -28,7 +28,7 @@ pub fn run<F: Shelf, K: Sink>(alloc: Global, words: &[&str], shelf: &mut F, out:
     // And what was written, by the status: all of the outcome's text, or what a failure left of it.
     ensures written { IfSome (F.files shelf.old) (λ files. HasWritten
         (ReadFailed (F.files shelf.old) (F.faults shelf.old) (F.faults shelf.new)
-            (files_read (names_in (texts_of words.now))))
+        (files_read (names_in (texts_of words.now))))
         (outcome_of (texts_of words.now) files).text result (K.taken out.old) (K.taken out.new)) }
 
     // Whatever the shelf tells, each status but these three is announced.
@@ -47,16 +47,15 @@ pub fn run<F: Shelf, K: Sink>(alloc: Global, words: &[&str], shelf: &mut F, out:
     // files before it had passed.
     ensures read { result ≡ Status.ReadFault → (file : File)
         × ReadFailed (F.files shelf.old) (F.faults shelf.old) (F.faults shelf.new)
-            (files_read (names_in (texts_of words.now))) file
+        (files_read (names_in (texts_of words.now))) file
         × Appends (K.taken out.old) (K.taken out.new) (fault_line (Read file)) }
     ensures write { result ≡ Status.WriteFault → Rose (K.faults out.old) (K.faults out.new) }
 
     // Where no fault is counted, the status is that of the words and files, unless memory is wanted.
-    ensures complete {
-        (AnyRose (files_read (names_in (texts_of words.now))) (F.faults shelf.old)
-            (F.faults shelf.new) → ⊥)
+    ensures complete { (AnyRose (files_read (names_in (texts_of words.now))) (F.faults shelf.old)
+        (F.faults shelf.new) → ⊥)
         → (Rose (K.faults out.old) (K.faults out.new) → ⊥) → IsOfInputs result
-            ⊎ (result ≡ Status.Memory) }
+        ⊎ (result ≡ Status.Memory) }
 
     // The files stay, and no other name is read; where the words are no command, none.
     ensures files { F.files shelf.new ≡ F.files shelf.old }

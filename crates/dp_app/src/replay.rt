@@ -1,11 +1,8 @@
 //! A replay: the blocks of a record's cycles, and the last line.
 ghost use Rattle.std.specs.Prelude.{◌≡◌, ◌≢◌, ◌≤◌, ◌^◌, [], IfOk, OnErr, OnOk, length};
-ghost use Rattle.dp_shell.specs.Faults.{HasWriteCause, Rose};
-ghost use Rattle.dp_plant.specs.SoundPlant.{IsSoundPlant};
-ghost use Rattle.dp_app.specs.Outcome.{IsOfInputs, IsOfRecord, play_of, played_out};
-ghost use Rattle.dp_app.specs.Playing.{HasPlayed, Shows, StopsShowing};
-ghost use Rattle.dp_app.specs.Prefixes.{prefix_read};
-ghost use Rattle.dp_app.specs.Written.{HasWritten, IsAnnounced, NoReadFailed};
+ghost use Rattle.dp_shell.specs.{HasWriteCause, Rose};
+ghost use Rattle.dp_plant.specs.{IsSoundPlant};
+ghost use Rattle.dp_app.specs.{HasPlayed, HasWritten, IsAnnounced, IsOfInputs, IsOfRecord, NoReadFailed, Shows, StopsShowing, play_of, played_out, prefix_read};
 
 use crate::Status;
 use crate::ending::{finish, stop};
@@ -23,7 +20,7 @@ pub fn replay<K: Sink>(player: &mut Player, out: &mut K, file: &FilePart) -> Sta
     requires size { length file.now.text.items ≤ 2 ^ 36 }
     ensures status { IsOfInputs result
         → result ≡ (played_out (play_of player.old.plant player.old.script
-            (prefix_read file.now))).status }
+        (prefix_read file.now))).status }
     ensures written { HasWritten NoReadFailed
         (played_out (play_of player.old.plant player.old.script (prefix_read file.now))).text
         result (K.taken out.old) (K.taken out.new) }

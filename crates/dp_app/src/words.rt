@@ -1,6 +1,6 @@
 ghost use Rattle.std.specs.Prelude.{◌≡◌};
 ghost use Rattle.std.specs.Option.{option_map};
-ghost use Rattle.dp_shell.specs.Names.{texts_of};
+ghost use Rattle.dp_shell.specs.{texts_of};
 ghost use Rattle.dp_app.specs.Words.{names_in};
 ghost use Rattle.dp_app.specs.Named.{shown_names};
 

@@ -1,4 +1,5 @@
--- How far a thruster's force can move, times 2^20: by the first number for each nanometre between the two other references, and by the
+-- How far a thruster's force can move, times 2^20: by the first number for each nanometre between
+-- the two other references, and by the
 -- second besides.
 use Rattle.std.specs.Prelude.{◌≡◌, ◌≤◌, ℕ, ◌^◌, ℤ, pos, ◌+ℤ◌, ◌-ℤ◌, ◌*ℤ◌, ◌≤ℤ◌, ◌<ℤ◌, List, unsigned_abs}
 use Rattle.dp_fixed.specs.Scale.{full_scale}

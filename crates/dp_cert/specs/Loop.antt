@@ -1,4 +1,5 @@
--- The control loop along one coordinate, over the scale: the observer's matrix, and what the control law adds to it along one axis. Rows
+-- The control loop along one coordinate, over the scale: the observer's matrix, and what the
+-- control law adds to it along one axis. Rows
 -- and columns are numbered 0 place, 1 bias, 2 velocity.
 use Rattle.std.specs.Prelude.{ℕ, zero, suc, ℤ, pos, neg_ℤ, ◌-ℤ◌, List, [], ◌∷◌}
 use Rattle.dp_fixed.specs.Scale.{full_scale}
@@ -29,7 +30,8 @@ vertex g axis v = place_row g ∷ bias_row g ∷ velocity_row g axis v ∷ []
 abbrev pub correction : Gains → List ℤ
 correction g = g.k2 ∷ g.k3 ∷ g.k4 ∷ []
 
--- how far each state moves by its rounding and the demands', in units: the velocity is rounded with both demands
+-- how far each state moves by its rounding and the demands', in units: the velocity is rounded with
+-- both demands
 abbrev pub rounding : List ℤ
 rounding = pos 1 ∷ pos 1 ∷ pos 3 ∷ []
 

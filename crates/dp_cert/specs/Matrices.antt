@@ -31,7 +31,8 @@ contraction_matrix rate p a =
     matrix_add (matrix_scale (rate *ℤ rate) p)
     (matrix_scale (neg_ℤ (pos 1)) (transposed_times a (matrix_times p a)))
 
--- k² P - g·gᵀ: its form is at least 0 where the size of g·x is at most k times the root of the form P at x
+-- k² P - g·gᵀ: its form is at least 0 where the size of g·x is at most k times the root of the form
+-- P at x
 abbrev pub output_matrix : ℤ → List (List ℤ) → List ℤ → List (List ℤ)
 output_matrix k p g = matrix_add (matrix_scale (k *ℤ k) p) (outer (scale (neg_ℤ (pos 1)) g) g)
 

@@ -1,4 +1,5 @@
--- The ranges of gains and certificates, by the names of their keys in the plant file, in the file's order.
+-- The ranges of gains and certificates, by the names of their keys in the plant file, in the file's
+-- order.
 use Rattle.std.specs.Prelude.{ℕ, ◌^◌, ℤ, pos, neg_ℤ, int_le, ◌&&◌, Bool, true, false, List, [], ◌∷◌, Option, Some, None, codes, slice_index_or, map}
 use Rattle.std.specs.List.{list_all}
 use Rattle.dp_fixed.specs.Scale.{full_scale}
@@ -140,8 +141,12 @@ list_out found l =
 
 abbrev pub part_out : Option (List ℕ) → Parts → Option (List ℕ)
 part_out found (Three l) = first_unfit (list_out found l) (span_rows l)
-part_out found (Five l) = first_unfit (first_unfit (list_out found l) (span_rows l)) (wave_span_rows l)
+part_out found (Five l) =
+    first_unfit (first_unfit (list_out found l) (span_rows l)) (wave_span_rows l)
 
 unfoldable pub first_out : Gains → YawGains → Cert → Option (List ℕ)
 first_out g y c =
-    part_out (first_unfit (first_unfit (first_unfit (first_unfit None (observer_rows g)) (law_rows g c.parts)) (yaw_rows y)) (number_rows c)) c.parts
+    part_out
+    (first_unfit
+    (first_unfit (first_unfit (first_unfit None (observer_rows g)) (law_rows g c.parts))
+    (yaw_rows y)) (number_rows c)) c.parts

@@ -18,7 +18,8 @@ pub record Shrinks {n : ℕ} (c : Cert) (l : Lists n) (a : List (List ℤ)) : Ty
   pub nonneg : IsNonNegative (contraction_matrix c.rho l.p.at a)
 
 -- the form bounds what the demand of an axis follows, and a coordinate
-pub record BoundsOutput {n : ℕ} (c : Cert) (l : Lists n) (followed : List ℤ) (axis : ℕ) : Type 0 where
+pub record BoundsOutput {n : ℕ} (c : Cert) (l : Lists n) (followed : List ℤ)
+    (axis : ℕ) : Type 0 where
   pub nonneg : IsNonNegative (output_matrix (entry c.g axis) l.p.at followed)
 
 pub record BoundsCoordinate {n : ℕ} (l : Lists n) (i : ℕ) : Type 0 where

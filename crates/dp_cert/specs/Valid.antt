@@ -29,13 +29,16 @@ abbrev pub short_row : List (List ℤ) → ℕ → NotShown
 short_row left i = record { row = i; short = shortfall left i }
 
 unfoldable pub first_short : {n : ℕ} → List (List ℤ) → List (Square n) → Option NotShown
-first_short {n} p qs = option_map (short_row (residual p qs)) (first_below n (λ i. int_lt (pos 0) (shortfall (residual p qs) i)))
+first_short {n} p qs =
+    option_map (short_row (residual p qs))
+    (first_below n (λ i. int_lt (pos 0) (shortfall (residual p qs) i)))
 
 -- a condition, as the fault where it fails: a test, and a matrix that squares are to show
 abbrev pub unless : Bool → CertFault → Option CertFault
 unless holds fault = if holds then None else Some fault
 
-abbrev pub shown : {n : ℕ} → List (List ℤ) → List (Square n) → (NotShown → CertFault) → Option CertFault
+abbrev pub shown : {n : ℕ} → List (List ℤ) → List (Square n) → (NotShown → CertFault)
+    → Option CertFault
 shown p qs fault = option_map fault (first_short p qs)
 
 -- ---- the conditions
@@ -46,23 +49,29 @@ unfoldable pub form_condition : {n : ℕ} → Lists n → Option CertFault
 form_condition l = shown l.p.at l.form.list.items (λ s. FormNotShown s.row s.short)
 
 -- of the loop's matrix a at an axis' vertex
-unfoldable pub vertex_condition : {n : ℕ} → Cert → Lists n → List (List ℤ) → ℕ → ℕ → Option CertFault
+unfoldable pub vertex_condition : {n : ℕ} → Cert → Lists n → List (List ℤ) → ℕ → ℕ
+    → Option CertFault
 vertex_condition c l a axis v =
-    shown (contraction_matrix c.rho l.p.at a) (squares_at l.vertex axis v) (λ s. VertexNotShown axis v s.row s.short)
+    shown (contraction_matrix c.rho l.p.at a) (squares_at l.vertex axis v)
+    (λ s. VertexNotShown axis v s.row s.short)
 
 unfoldable pub input_condition : {n : ℕ} → Cert → Lists n → Loop n → Option CertFault
 input_condition c l m = unless (int_le (pos 2 *ℤ form l.p.at m.correction) (c.b *ℤ c.b)) InputShort
 
 unfoldable pub round_condition : {n : ℕ} → Cert → Lists n → Loop n → Option CertFault
-round_condition c l m = unless (int_le (pos 2 *ℤ form (absolute_rows l.p.at) m.rounding) (c.r *ℤ c.r)) RoundShort
+round_condition c l m =
+    unless (int_le (pos 2 *ℤ form (absolute_rows l.p.at) m.rounding) (c.r *ℤ c.r)) RoundShort
 
 -- of what the demand of an axis follows
 unfoldable pub output_condition : {n : ℕ} → Cert → Lists n → List ℤ → ℕ → ℕ → Option CertFault
 output_condition c l followed axis which =
-    shown (output_matrix (entry c.g axis) l.p.at followed) (squares_at l.output axis which) (λ s. OutputNotShown axis which s.row s.short)
+    shown (output_matrix (entry c.g axis) l.p.at followed) (squares_at l.output axis which)
+    (λ s. OutputNotShown axis which s.row s.short)
 
 unfoldable pub span_condition : {n : ℕ} → Lists n → ℕ → Option CertFault
-span_condition {n} l i = shown (output_matrix (entry l.span i) l.p.at (unit n i)) (squares_of l.spans i) (λ s. SpanNotShown i s.row s.short)
+span_condition {n} l i =
+    shown (output_matrix (entry l.span i) l.p.at (unit n i)) (squares_of l.spans i)
+    (λ s. SpanNotShown i s.row s.short)
 
 unfoldable pub width_condition : {n : ℕ} → Cert → Lists n → Option CertFault
 width_condition c l = option_map TooWide (first_too_wide c l)

@@ -1,4 +1,5 @@
--- The control loop along one coordinate with a wave filter, over the scale. Rows and columns are numbered 0 place, 1 bias, 2 velocity,
+-- The control loop along one coordinate with a wave filter, over the scale. Rows and columns are
+-- numbered 0 place, 1 bias, 2 velocity,
 -- 3 p and 4 q. What is measured has q in it, so that q is corrected for wherever the place is.
 use Rattle.std.specs.Prelude.{ℕ, zero, suc, ℤ, pos, neg_ℤ, ◌-ℤ◌, List, [], ◌∷◌}
 use Rattle.dp_fixed.specs.Scale.{full_scale}
@@ -26,14 +27,17 @@ wave_velocity_row g axis (suc (suc v)) =
 
 -- the rows of p and q, by the filter's matrix
 abbrev pub wave_p_row : Gains → List ℤ
-wave_p_row g = neg_ℤ (entry g.k1 0) ∷ pos 0 ∷ pos 0 ∷ entry g.wave 0 ∷ (entry g.wave 1 -ℤ entry g.k1 0) ∷ []
+wave_p_row g =
+    neg_ℤ (entry g.k1 0) ∷ pos 0 ∷ pos 0 ∷ entry g.wave 0 ∷ (entry g.wave 1 -ℤ entry g.k1 0) ∷ []
 
 abbrev pub wave_q_row : Gains → List ℤ
-wave_q_row g = neg_ℤ (entry g.k1 1) ∷ pos 0 ∷ pos 0 ∷ entry g.wave 2 ∷ (entry g.wave 3 -ℤ entry g.k1 1) ∷ []
+wave_q_row g =
+    neg_ℤ (entry g.k1 1) ∷ pos 0 ∷ pos 0 ∷ entry g.wave 2 ∷ (entry g.wave 3 -ℤ entry g.k1 1) ∷ []
 
 abbrev pub wave_vertex : Gains → ℕ → ℕ → List (List ℤ)
 wave_vertex g axis v =
-    wave_place_row g ∷ wave_bias_row g ∷ wave_velocity_row g axis v ∷ wave_p_row g ∷ wave_q_row g ∷ []
+    wave_place_row g ∷ wave_bias_row g ∷ wave_velocity_row g axis v ∷ wave_p_row g ∷ wave_q_row g
+    ∷ []
 
 abbrev pub wave_correction : Gains → List ℤ
 wave_correction g = g.k2 ∷ g.k3 ∷ g.k4 ∷ entry g.k1 0 ∷ entry g.k1 1 ∷ []

@@ -12,11 +12,15 @@ use Rattle.dp_plant.specs.declared.cert.Cert.{Cert}
 use Rattle.dp_plant.specs.declared.cert.Lists.{Lists}
 use Rattle.dp_cert.specs.First.{first_below}
 
--- the greatest root of the form in a run, of its entries for place and velocity: at rest at a setpoint, or kept by every cycle
+-- the greatest root of the form in a run, of its entries for place and velocity: at rest at a
+-- setpoint, or kept by every cycle
 unfoldable pub reach : ℤ → ℤ → ℤ → ℤ → ℤ → ℤ
 reach place speed rho b r =
     int_max (root_of (pos 2 *ℤ place) *ℤ pos (2 ^ 43))
-    (ceil_of (b *ℤ pos (2 ^ 44) +ℤ full_scale *ℤ (root_of (pos 2 *ℤ speed) *ℤ pos (2 ^ 32) +ℤ pos 2 *ℤ r)) (full_scale -ℤ rho))
+    (ceil_of
+    (b *ℤ pos (2 ^ 44)
+    +ℤ full_scale *ℤ (root_of (pos 2 *ℤ speed) *ℤ pos (2 ^ 32) +ℤ pos 2 *ℤ r))
+    (full_scale -ℤ rho))
 
 -- the greatest value of a coordinate with this span
 unfoldable pub width : ℤ → ℤ → ℤ
@@ -35,7 +39,8 @@ first_wide n widths = first_below n (λ i. is_wide (entry widths i))
 
 -- whether a part of row i is
 unfoldable pub row_heavy : ℕ → List ℤ → List ℤ → ℕ → Bool
-row_heavy n entries widths i = is_some (first_below n (λ j. is_heavy (entry entries j) (entry widths i) (entry widths j)))
+row_heavy n entries widths i =
+    is_some (first_below n (λ j. is_heavy (entry entries j) (entry widths i) (entry widths j)))
 
 unfoldable pub first_heavy : ℕ → List (List ℤ) → List ℤ → Option ℕ
 first_heavy n p widths = first_below n (λ i. row_heavy n (row p i) widths i)

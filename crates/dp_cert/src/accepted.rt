@@ -39,7 +39,8 @@ fn named(name: &'static str) -> Key
 /// the demands and each coordinate; and every state that the plant can reach fits 64 bits, its form 128.
 pub fn accept(g: &Gains, y: &YawGains, c: &Cert) -> Result<Accepted, CertFault>
     ensures accepted { IsOk result ↔ IsValid g.now y.now c.now }
-    ensures refused { IfErr result (IsRefusal (first_out g.now y.now c.now) (first_fault g.now c.now)) }
+    ensures refused { IfErr result
+        (IsRefusal (first_out g.now y.now c.now) (first_fault g.now c.now)) }
     ensures sound { OnOk result (IsSound g.now c.now) }
     ensures kept { IfOk result (λ a. (a.gains ≡ g.now) × (a.yaw ≡ y.now) × (a.cert ≡ c.now)) }
 {

@@ -1,10 +1,8 @@
 //! How far a thruster's force can move.
 ghost use Rattle.std.specs.Prelude.{◌≡◌, ◌≤◌, ◌<◌, ◌^◌, ℕ, pos, ◌+ℤ◌, ◌-ℤ◌, ◌*ℤ◌, ◌<ℤ◌, ◌≤ℤ◌, unsigned_abs};
-ghost use Rattle.dp_fixed.specs.Scale.{full_scale};
-ghost use Rattle.dp_fixed.specs.Division.{ceil_of};
-ghost use Rattle.dp_plant.specs.Vectors.{entry};
-ghost use Rattle.dp_cert.specs.Bound.{IsShareRow, IsSplit, bound, share_size};
-ghost use Rattle.dp_cert.specs.InRange.{AreNumbers, IsUpTo};
+ghost use Rattle.dp_fixed.specs.{ceil_of, full_scale};
+ghost use Rattle.dp_plant.specs.{entry};
+ghost use Rattle.dp_cert.specs.{AreNumbers, IsShareRow, IsSplit, IsUpTo, bound, share_size};
 
 use dp_fixed::{Q, ceil_div, difference, sum};
 use dp_plant::Cert;

@@ -1,9 +1,8 @@
 //! The loop of five states: place, bias, velocity, and the wave states p and q.
 ghost use Rattle.std.specs.Prelude.{◌≡◌, ◌≤◌, ◌<◌, ◌^◌, [], ◌∷◌, pos, neg_ℤ, ◌-ℤ◌, All, unsigned_abs};
-ghost use Rattle.dp_fixed.specs.Scale.{full_scale};
-ghost use Rattle.dp_form.specs.Range.{IsWithin};
-ghost use Rattle.dp_plant.specs.Ranges.{IsLawGains, IsObserverGains};
-ghost use Rattle.dp_plant.specs.Vectors.{entry};
+ghost use Rattle.dp_fixed.specs.{full_scale};
+ghost use Rattle.dp_form.specs.{IsWithin};
+ghost use Rattle.dp_plant.specs.{IsLawGains, IsObserverGains, entry};
 ghost use Rattle.dp_cert.specs.WaveLoop.{
   axis_five,
   loop_five,
@@ -15,7 +14,7 @@ ghost use Rattle.dp_cert.specs.WaveLoop.{
   wave_rounding,
   wave_velocity_row,
 };
-ghost use Rattle.dp_cert.specs.Sizes.{IsSmallAxis, IsSmallLoop};
+ghost use Rattle.dp_cert.specs.{IsSmallAxis, IsSmallLoop};
 
 use crate::loops::{AxisLoop, Loop, ONE, gain_of, less, less_both, minus, minus_both, wide};
 use dp_fixed::Q;
@@ -144,7 +143,9 @@ fn q_row(g: &Gains) -> [i128; 5]
 fn rows(g: &Gains, velocity: [i128; 5]) -> [[i128; 5]; 5]
     requires observer { IsObserverGains g.now }
     requires velocity { All (IsWithin (2 ^ 35)) velocity }
-    ensures value { result ≡ wave_place_row g.now ∷ wave_bias_row g.now ∷ velocity ∷ wave_p_row g.now ∷ wave_q_row g.now ∷ [] }
+    ensures value { result
+        ≡ wave_place_row g.now ∷ wave_bias_row g.now ∷ velocity ∷ wave_p_row g.now
+        ∷ wave_q_row g.now ∷ [] }
     ensures small { All (All (IsWithin (2 ^ 35))) result }
 {
     [place_row(g), bias_row(g), velocity, p_row(g), q_row(g)]

@@ -1,9 +1,8 @@
 //! Forms, the matrices of absolute values, and entries with their sizes.
 ghost use Rattle.std.specs.Prelude.{◌≡◌, ◌≤◌, ◌<◌, ◌^◌, pos, All, slice_index_or, unsigned_abs};
-ghost use Rattle.dp_form.specs.Form.{form};
-ghost use Rattle.dp_form.specs.Range.{IsWithin};
-ghost use Rattle.dp_plant.specs.Vectors.{entry};
-ghost use Rattle.dp_cert.specs.Matrices.{absolute, absolute_rows, unit};
+ghost use Rattle.dp_form.specs.{IsWithin, form};
+ghost use Rattle.dp_plant.specs.{entry};
+ghost use Rattle.dp_cert.specs.{absolute, absolute_rows, unit};
 
 use crate::matrices::{applied, dot_of};
 use dp_fixed::Q;

@@ -1,15 +1,9 @@
 //! The conditions of a valid certificate but for the ranges, in their order.
 ghost use Rattle.std.specs.Prelude.{◌≡◌, ◌<◌, ◌≤◌, ◌^◌, ◌⊎◌, ℕ, pos, ◌*ℤ◌, ◌<ℤ◌, ◌≤ℤ◌, int_le, unsigned_abs, All, None};
-ghost use Rattle.dp_fixed.specs.Scale.{full_scale};
-ghost use Rattle.dp_form.specs.Form.{form, IsNonNegative};
-ghost use Rattle.dp_form.specs.Range.{IsWithin, IsSmallSquare};
-ghost use Rattle.dp_plant.specs.Ranges.{IsLawGains, IsObserverGains};
-ghost use Rattle.dp_cert.specs.Loop.{loop_three};
-ghost use Rattle.dp_cert.specs.WaveLoop.{loop_five};
-ghost use Rattle.dp_cert.specs.InRange.{AreLists, AreNumbers, AreParts, AreWaveSpans, IsUpTo};
-ghost use Rattle.dp_cert.specs.Matrices.{absolute_rows};
-ghost use Rattle.dp_cert.specs.Ranges.{squares_at, squares_of};
-ghost use Rattle.dp_cert.specs.Sizes.{IsSmallLoop};
+ghost use Rattle.dp_fixed.specs.{full_scale};
+ghost use Rattle.dp_form.specs.{IsNonNegative, IsSmallSquare, IsWithin, form};
+ghost use Rattle.dp_plant.specs.{IsLawGains, IsObserverGains};
+ghost use Rattle.dp_cert.specs.{AreLists, AreNumbers, AreParts, AreWaveSpans, IsSmallLoop, IsUpTo, absolute_rows, loop_five, loop_three, squares_at, squares_of};
 ghost use Rattle.dp_cert.specs.Sound.{
   AreBounded,
   BoundsCoordinate,
@@ -250,7 +244,8 @@ fn input_condition<const N: usize>(c: &Cert, l: &Lists<N>, m: &Loop<N>) -> Optio
     requires lists { AreLists l.now }
     requires small { IsSmallLoop m.now }
     ensures value { result ≡ input_condition c.now l.now m.now }
-    ensures enough { result ≡ None → (pos 2 *ℤ form l.now.p.at m.now.correction) ≤ℤ (c.now.b *ℤ c.now.b) }
+    ensures enough { result ≡ None
+        → (pos 2 *ℤ form l.now.p.at m.now.correction) ≤ℤ (c.now.b *ℤ c.now.b) }
 {
     if is_enough(c.b, &l.p.at, &m.correction) {
         None
@@ -266,7 +261,8 @@ fn round_condition<const N: usize>(c: &Cert, l: &Lists<N>, m: &Loop<N>) -> Optio
     requires lists { AreLists l.now }
     requires small { IsSmallLoop m.now }
     ensures value { result ≡ round_condition c.now l.now m.now }
-    ensures enough { result ≡ None → (pos 2 *ℤ form (absolute_rows l.now.p.at) m.now.rounding) ≤ℤ (c.now.r *ℤ c.now.r) }
+    ensures enough { result ≡ None
+        → (pos 2 *ℤ form (absolute_rows l.now.p.at) m.now.rounding) ≤ℤ (c.now.r *ℤ c.now.r) }
 {
     let sizes = absolute_rows(&l.p.at);
     if is_enough(c.r, &sizes, &m.rounding) {

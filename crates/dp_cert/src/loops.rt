@@ -1,8 +1,7 @@
 //! The control loop along one coordinate as matrices over the scale, and the steps that make their numbers.
 ghost use Rattle.std.specs.Prelude.{◌≡◌, ◌≤◌, ◌<◌, ◌^◌, neg_ℤ, ◌-ℤ◌, unsigned_abs};
-ghost use Rattle.dp_form.specs.Range.{IsWithin};
-ghost use Rattle.dp_plant.specs.Ranges.{IsShare};
-ghost use Rattle.dp_plant.specs.Vectors.{entry};
+ghost use Rattle.dp_form.specs.{IsWithin};
+ghost use Rattle.dp_plant.specs.{IsShare, entry};
 
 use dp_fixed::difference;
 

@@ -1,9 +1,7 @@
 //! The matrices that a certificate's squares are to show, entry by entry.
 ghost use Rattle.std.specs.Prelude.{◌≡◌, ◌<◌, ◌^◌, ◌*◌, pos, ℕ, ◌*ℤ◌, ◌-ℤ◌, All, slice_index_or, length};
-ghost use Rattle.dp_form.specs.Vectors.{dot, apply, row, entry};
-ghost use Rattle.dp_form.specs.Range.{IsWithin};
-ghost use Rattle.dp_form.specs.Form.{HasSize, IsSymmetric};
-ghost use Rattle.dp_cert.specs.Matrices.{column, contraction_matrix, output_matrix};
+ghost use Rattle.dp_form.specs.{HasSize, IsSymmetric, IsWithin, apply, dot, entry, row};
+ghost use Rattle.dp_cert.specs.{column, contraction_matrix, output_matrix};
 
 use dp_form::Sym;
 
@@ -165,7 +163,10 @@ fn output_row<const N: usize>(row: &[i128; N], g: &[i128; N], k: i64, i: usize) 
     requires row_small { All (IsWithin (2 ^ 40)) row.now }
     requires g_small { All (IsWithin (2 ^ 35)) g.now }
     requires k_small { IsWithin (2 ^ 40) k }
-    ensures value { (j : ℕ) → j < N → slice_index_or result j (pos 0) ≡ k *ℤ k *ℤ slice_index_or row.now j (pos 0) -ℤ slice_index_or g.now i (pos 0) *ℤ slice_index_or g.now j (pos 0) }
+    ensures value { (j : ℕ) → j < N
+        → slice_index_or result j (pos 0)
+        ≡ k *ℤ k *ℤ slice_index_or row.now j (pos 0)
+        -ℤ slice_index_or g.now i (pos 0) *ℤ slice_index_or g.now j (pos 0) }
     ensures small { All (IsWithin (2 ^ 121)) result }
     ensures long { length result ≡ N }
     ensures wide { length row.now ≡ N }

@@ -104,7 +104,8 @@ struct Unfit {
 impl Unfit {
     /// A further key, and whether its value is in its range.
     fn key(self, name: &'static str, fits: bool) -> Unfit
-        ensures { option_map (λ s. s.now) result.name ≡ unfit (option_map (λ s. s.now) self.name) (name.now, fits) }
+        ensures { option_map (λ s. s.now) result.name
+            ≡ unfit (option_map (λ s. s.now) self.name) (name.now, fits) }
     {
         match self.name {
             Some(first) => Unfit { name: Some(first) },
@@ -116,7 +117,8 @@ impl Unfit {
 
 #[tactic(auto, unfolding(crate::specs::Ranges::observer_rows))]
 fn observer(first: Unfit, g: &Gains) -> Unfit
-    ensures { option_map (λ s. s.now) result.name ≡ first_unfit (option_map (λ s. s.now) first.name) (observer_rows g.now) }
+    ensures { option_map (λ s. s.now) result.name
+        ≡ first_unfit (option_map (λ s. s.now) first.name) (observer_rows g.now) }
 {
     first
         .key("gains.k2", are_shares(from_ref(&g.k2)))
@@ -128,7 +130,8 @@ fn observer(first: Unfit, g: &Gains) -> Unfit
 
 #[tactic(auto, unfolding(crate::specs::Ranges::law_rows))]
 fn law(first: Unfit, g: &Gains, parts: &Parts) -> Unfit
-    ensures { option_map (λ s. s.now) result.name ≡ first_unfit (option_map (λ s. s.now) first.name) (law_rows g.now parts.now) }
+    ensures { option_map (λ s. s.now) result.name
+        ≡ first_unfit (option_map (λ s. s.now) first.name) (law_rows g.now parts.now) }
 {
     first
         .key("gains.kp", are_shares(&g.kp))
@@ -140,7 +143,8 @@ fn law(first: Unfit, g: &Gains, parts: &Parts) -> Unfit
 
 #[tactic(auto, unfolding(crate::specs::Ranges::yaw_rows))]
 fn yaw(first: Unfit, y: &YawGains) -> Unfit
-    ensures { option_map (λ s. s.now) result.name ≡ first_unfit (option_map (λ s. s.now) first.name) (yaw_rows y.now) }
+    ensures { option_map (λ s. s.now) result.name
+        ≡ first_unfit (option_map (λ s. s.now) first.name) (yaw_rows y.now) }
 {
     first
         .key("yaw.k2", are_shares(from_ref(&y.k2)))
@@ -155,7 +159,8 @@ fn yaw(first: Unfit, y: &YawGains) -> Unfit
 
 #[tactic(auto, unfolding(crate::specs::Ranges::number_rows))]
 fn numbers(first: Unfit, c: &Cert) -> Unfit
-    ensures { option_map (λ s. s.now) result.name ≡ first_unfit (option_map (λ s. s.now) first.name) (number_rows c.now) }
+    ensures { option_map (λ s. s.now) result.name
+        ≡ first_unfit (option_map (λ s. s.now) first.name) (number_rows c.now) }
 {
     first
         .key("cert.rho", are_shares(from_ref(&c.rho)))
@@ -166,7 +171,8 @@ fn numbers(first: Unfit, c: &Cert) -> Unfit
 
 #[tactic(auto, unfolding(crate::specs::Ranges::form_rows))]
 fn form<const N: usize>(first: Unfit, l: &Lists<N>) -> Unfit
-    ensures { option_map (λ s. s.now) result.name ≡ first_unfit (option_map (λ s. s.now) first.name) (form_rows l.now) }
+    ensures { option_map (λ s. s.now) result.name
+        ≡ first_unfit (option_map (λ s. s.now) first.name) (form_rows l.now) }
 {
     first
         .key("cert.p", is_small_matrix(&l.p.at))
@@ -176,7 +182,8 @@ fn form<const N: usize>(first: Unfit, l: &Lists<N>) -> Unfit
 
 #[tactic(auto, unfolding(crate::specs::Ranges::vertex_rows))]
 fn vertices<const N: usize>(first: Unfit, l: &Lists<N>) -> Unfit
-    ensures { option_map (λ s. s.now) result.name ≡ first_unfit (option_map (λ s. s.now) first.name) (vertex_rows l.now) }
+    ensures { option_map (λ s. s.now) result.name
+        ≡ first_unfit (option_map (λ s. s.now) first.name) (vertex_rows l.now) }
 {
     let surge = &l.vertex[0];
     let sway = &l.vertex[1];
@@ -191,7 +198,8 @@ fn vertices<const N: usize>(first: Unfit, l: &Lists<N>) -> Unfit
 
 #[tactic(auto, unfolding(crate::specs::Ranges::output_rows))]
 fn outputs<const N: usize>(first: Unfit, l: &Lists<N>) -> Unfit
-    ensures { option_map (λ s. s.now) result.name ≡ first_unfit (option_map (λ s. s.now) first.name) (output_rows l.now) }
+    ensures { option_map (λ s. s.now) result.name
+        ≡ first_unfit (option_map (λ s. s.now) first.name) (output_rows l.now) }
 {
     let surge = &l.output[0];
     let sway = &l.output[1];
@@ -204,7 +212,8 @@ fn outputs<const N: usize>(first: Unfit, l: &Lists<N>) -> Unfit
 
 #[tactic(auto, unfolding(crate::specs::Ranges::span_rows))]
 fn spans(first: Unfit, l: &Lists<3>) -> Unfit
-    ensures { option_map (λ s. s.now) result.name ≡ first_unfit (option_map (λ s. s.now) first.name) (span_rows l.now) }
+    ensures { option_map (λ s. s.now) result.name
+        ≡ first_unfit (option_map (λ s. s.now) first.name) (span_rows l.now) }
 {
     first
         .key("cert.span0", are_squares(&l.spans[0]))
@@ -214,7 +223,9 @@ fn spans(first: Unfit, l: &Lists<3>) -> Unfit
 
 #[tactic(auto, unfolding(crate::specs::Ranges::span_rows, crate::specs::Ranges::wave_span_rows))]
 fn wave_spans(first: Unfit, l: &Lists<5>) -> Unfit
-    ensures { option_map (λ s. s.now) result.name ≡ first_unfit (first_unfit (option_map (λ s. s.now) first.name) (span_rows l.now)) (wave_span_rows l.now) }
+    ensures { option_map (λ s. s.now) result.name
+        ≡ first_unfit (first_unfit (option_map (λ s. s.now) first.name) (span_rows l.now))
+        (wave_span_rows l.now) }
 {
     first
         .key("cert.span0", are_squares(&l.spans[0]))
@@ -226,13 +237,15 @@ fn wave_spans(first: Unfit, l: &Lists<5>) -> Unfit
 
 #[tactic(auto, unfolding(crate::specs::Ranges::list_out))]
 fn lists<const N: usize>(first: Unfit, l: &Lists<N>) -> Unfit
-    ensures { option_map (λ s. s.now) result.name ≡ list_out (option_map (λ s. s.now) first.name) l.now }
+    ensures { option_map (λ s. s.now) result.name
+        ≡ list_out (option_map (λ s. s.now) first.name) l.now }
 {
     outputs(vertices(form(first, l), l), l)
 }
 
 fn parts(first: Unfit, parts: &Parts) -> Unfit
-    ensures { option_map (λ s. s.now) result.name ≡ part_out (option_map (λ s. s.now) first.name) parts.now }
+    ensures { option_map (λ s. s.now) result.name
+        ≡ part_out (option_map (λ s. s.now) first.name) parts.now }
 {
     match parts {
         Parts::Three(l) => spans(lists(first, l), l),

@@ -1,9 +1,7 @@
 //! The first row that squares leave short, of each kind of matrix.
 ghost use Rattle.std.specs.Prelude.{◌≡◌, ◌<◌, ◌^◌, ◌⊎◌, All, None};
-ghost use Rattle.dp_form.specs.Form.{IsNonNegative, IsSymmetric};
-ghost use Rattle.dp_form.specs.Range.{IsWithin, IsSmallSquare};
-ghost use Rattle.dp_cert.specs.Matrices.{contraction_matrix, output_matrix};
-ghost use Rattle.dp_cert.specs.Valid.{first_short};
+ghost use Rattle.dp_form.specs.{IsNonNegative, IsSmallSquare, IsSymmetric, IsWithin};
+ghost use Rattle.dp_cert.specs.{contraction_matrix, first_short, output_matrix};
 
 use crate::matrices::{contraction, output};
 use dp_form::{NotShown, Squares, Sym, is_nonneg};

@@ -1,7 +1,7 @@
 //! Worked rows: the sample plants' certificates, accepted and refused, and their bounds.
 ghost use Rattle.std.specs.Prelude.{◌≡◌, ◌<◌, ◌+◌, All, length};
-ghost use Rattle.dp_cert.specs.Bound.{IsShareRow};
-ghost use Rattle.dp_form.specs.Form.{IsSymmetric};
+ghost use Rattle.dp_cert.specs.{IsShareRow};
+ghost use Rattle.dp_form.specs.{IsSymmetric};
 
 use super::{CertFault, accept};
 use arrayvec::ArrayVec;

@@ -1,11 +1,10 @@
 //! The loop of three states: place, bias and velocity.
 ghost use Rattle.std.specs.Prelude.{◌≡◌, ◌<◌, ◌^◌, [], ◌∷◌, pos, All};
-ghost use Rattle.dp_fixed.specs.Scale.{full_scale};
-ghost use Rattle.dp_form.specs.Range.{IsWithin};
-ghost use Rattle.dp_plant.specs.Ranges.{IsLawGains, IsObserverGains};
-ghost use Rattle.dp_plant.specs.Vectors.{entry};
-ghost use Rattle.dp_cert.specs.Loop.{axis_three, bias_row, correction, loop_three, place_row, rounding, velocity_row};
-ghost use Rattle.dp_cert.specs.Sizes.{IsSmallAxis, IsSmallLoop};
+ghost use Rattle.dp_fixed.specs.{full_scale};
+ghost use Rattle.dp_form.specs.{IsWithin};
+ghost use Rattle.dp_plant.specs.{IsLawGains, IsObserverGains, entry};
+ghost use Rattle.dp_cert.specs.Loop.{correction, rounding};
+ghost use Rattle.dp_cert.specs.{IsSmallAxis, IsSmallLoop, axis_three, bias_row, loop_three, place_row, velocity_row};
 
 use crate::loops::{AxisLoop, Loop, ONE, gain_of, less, less_both, minus, minus_both, wide};
 use dp_fixed::Q;

@@ -1,14 +1,9 @@
 //! How far each coordinate can grow.
 ghost use Rattle.std.specs.Prelude.{◌≡◌, ◌≤◌, ◌<◌, ◌^◌, ◌⊎◌, ℕ, pos, ◌+ℤ◌, ◌-ℤ◌, ◌*ℤ◌, ◌<ℤ◌, ◌≤ℤ◌, All, int_lt, map, if◌then◌else◌, IfSome, IfOk, IfErr, OnOk, Some, None};
-ghost use Rattle.dp_fixed.specs.Scale.{full_scale};
-ghost use Rattle.dp_fixed.specs.Division.{ceil_of};
-ghost use Rattle.dp_fixed.specs.Roots.{root_of};
-ghost use Rattle.dp_form.specs.Range.{IsWithin};
-ghost use Rattle.dp_form.specs.Form.{IsNonNegative};
-ghost use Rattle.dp_form.specs.Vectors.{entry as matrix_entry};
-ghost use Rattle.dp_plant.specs.Vectors.{entry};
-ghost use Rattle.dp_cert.specs.InRange.{AreLists, AreNumbers, IsUpTo};
-ghost use Rattle.dp_cert.specs.Width.{first_heavy, first_too_wide, first_wide, is_heavy, is_wide, reach, row_heavy, width};
+ghost use Rattle.dp_fixed.specs.{ceil_of, full_scale, root_of};
+ghost use Rattle.dp_form.specs.{IsNonNegative, IsWithin, entry as matrix_entry};
+ghost use Rattle.dp_plant.specs.{entry};
+ghost use Rattle.dp_cert.specs.{AreLists, AreNumbers, IsUpTo, first_heavy, first_too_wide, first_wide, is_heavy, is_wide, reach, row_heavy, width};
 
 use crate::forms::entry_of;
 use dp_fixed::{Q, ceil_div, floor_div, root_up};

@@ -12,7 +12,8 @@ abbrev pub IsInBox : Box3 → List ℤ → Type 0
 IsInBox box demand = (axis : ℕ) → axis < 3
     → IsWithin (entry box.lo axis) (entry box.hi axis) (entry demand axis)
 
--- whatever groups are lost, each force that the case of these gives for a demand in its box is within the thruster's limits
+-- whatever groups are lost, each force that the case of these gives for a demand in its box is
+-- within the thruster's limits
 abbrev pub CanGiveDemand : Plant → Type 0
 CanGiveDemand p = (lost : ℕ) (demand : List ℤ) → IsInBox (box_of (case_of p lost)) demand
     → (k : ℕ) (f : ℤ) → slice_get (forces_of p.thrusters.items (case_of p lost) demand) k ≡ Some f

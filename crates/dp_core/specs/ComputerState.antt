@@ -15,7 +15,8 @@ use Rattle.dp_core.specs.declared.answers.Heard.TheVariants.{Kept, Overrun, Deaf
 use Rattle.dp_core.specs.declared.answers.Ran.{Ran}
 use Rattle.dp_core.specs.declared.answers.Ran.TheVariants.{Issued as RanIssued, Idle as RanIdle, Aligning as RanAligning, Off as RanOff, Halted as RanHalted}
 
--- how a computer takes part: it controls from a state, it waits to be aligned, or it is switched off
+-- how a computer takes part: it controls from a state, it waits to be aligned, or it is switched
+-- off
 pub data Control : Type 0 where
   InControl : (state : State) → Control
   ToAlign : Control

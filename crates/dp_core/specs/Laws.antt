@@ -18,7 +18,8 @@ use Rattle.dp_core.specs.OwnForce.{IsOwnForce}
 use Rattle.dp_core.specs.Trajectory.{frames_done, trajectory}
 use Rattle.dp_core.specs.Voting.{ballot, given_ballot, is_delivered, taken_force}
 
--- with at most one faulty computer in any cycle, each live computer that wasn't skewed since its last break has come to the state of
+-- with at most one faulty computer in any cycle, each live computer that wasn't skewed since its
+-- last break has come to the state of
 -- the reference run after the frames that it has done
 abbrev pub TrajectoriesAreReference : Type 0
 TrajectoriesAreReference = (p : Plant) (es : List Event) → AtMostOneFaulty (history p es)
@@ -32,21 +33,24 @@ abbrev pub SkewedIsFaulty : Type 0
 SkewedIsFaulty = (p : Plant) (es : List Event) (c : ℕ)
     → is_faulty c (history p es) ≡ false → is_skewed c (history p es) ≡ false
 
--- with at most one faulty computer in any cycle, a fresh ballot of this cycle is the reference run's force
+-- with at most one faulty computer in any cycle, a fresh ballot of this cycle is the reference
+-- run's force
 abbrev pub FreshIsReference : Type 0
 FreshIsReference = (p : Plant) (es : List Event) → AtMostOneFaulty (history p es)
     → (k : ℕ) (f : ℤ) → given_ballot k (history p es) ≡ Some (Fresh f)
     → force_of p (own_setpoints p) (frames (history p es)) (cycles_begun (history p es) - 1) k
     ≡ Some f
 
--- whatever is faulty, the force that a voter takes from a computer's last issue is one that the computer's own trajectory issued for
+-- whatever is faulty, the force that a voter takes from a computer's last issue is one that the
+-- computer's own trajectory issued for
 -- this cycle; so it is after a skew
 abbrev pub TakenIsOwn : Type 0
 TakenIsOwn = (p : Plant) (es : List Event) (k a : ℕ)
     → seen_of p (history p es) (Order a k) ≡ Sent (Some Taken)
     → (f : ℤ) × (taken_force k a (history p (Order a k ∷ es)) ≡ Some f) × IsOwnForce p k a es f
 
--- where the issues of two computers that aren't faulty in this cycle were delivered in it, the first vote of this cycle is fresh,
+-- where the issues of two computers that aren't faulty in this cycle were delivered in it, the
+-- first vote of this cycle is fresh,
 -- with the reference run's force
 abbrev pub TwoHeardAreFresh : Type 0
 TwoHeardAreFresh = (p : Plant) → IsSoundPlant p → CanGiveDemand p

@@ -12,10 +12,13 @@ pub mod WorldView
 pub mod CanGiveDemand
 pub mod Laws
 pub mod Represents
-pub use Rattle.dp_core.specs.Faulty.{AtMostOneFaulty}
-pub use Rattle.dp_core.specs.History.{answer_to_run, answers_to_wire, history, seen_of}
-pub use Rattle.dp_core.specs.Laws.{FreshIsReference, SkewedIsFaulty, TakenIsOwn, TrajectoriesAreReference, TwoHeardAreFresh}
-pub use Rattle.dp_core.specs.Mode.{cycles_begun, frames, mode}
+pub use Rattle.dp_core.specs.ComputerState.{after_run, after_skew, after_stop, after_wire, first_computer, is_live, mode_of, run_answer, skew_answer, wire_answer}
+pub use Rattle.dp_core.specs.Inside.{IsComputer, computer_state}
+pub use Rattle.dp_core.specs.Mode.{mode}
 pub use Rattle.dp_core.specs.Trajectory.{last_issue}
-pub use Rattle.dp_core.specs.Voting.{answer, answer_if, ballot, given_ballot, message_of, taken_force, taken_forces}
-pub use Rattle.dp_core.specs.WorldState.{IsAllowed, after}
+pub use Rattle.dp_core.specs.Voting.{answer, answer_if, given_ballot, message_of, taken_force, taken_forces}
+pub use Rattle.dp_core.specs.History.{answer_to_run, answers_to_wire, history, seen_of}
+pub use Rattle.dp_core.specs.Faulty.{AtMostOneFaulty}
+pub use Rattle.dp_core.specs.WorldState.{IsAllowed, after, last_of, message_by, voter_of}
+pub use Rattle.dp_core.specs.WorldView.{IsInStep, IsWorld, world_of}
+pub use Rattle.dp_core.specs.Laws.{FreshIsReference, SkewedIsFaulty, TakenIsOwn, TrajectoriesAreReference, TwoHeardAreFresh}

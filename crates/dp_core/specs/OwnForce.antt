@@ -12,7 +12,8 @@ use Rattle.dp_core.specs.History.{history}
 use Rattle.dp_core.specs.Mode.{cycles_begun, frames, mode}
 use Rattle.dp_core.specs.Trajectory.{frames_done, trajectory}
 
--- f is the force of thruster k that computer a issued for the last cycle, by a Run at which its own trajectory went on
+-- f is the force of thruster k that computer a issued for the last cycle, by a Run at which its own
+-- trajectory went on
 pub record IsOwnForce (p : Plant) (k a : ℕ) (es : List Event) (f : ℤ) : Type 0 where
   pub later : List Event
   pub earlier : List Event

@@ -13,9 +13,11 @@ use Rattle.dp_core.specs.Trajectory.{frames_done, last_issue, steps, trajectory}
 use Rattle.dp_core.specs.Voting.{given_ballot, high_of, last_fresh, low_of, taken_forces, unfresh_cycles}
 use Rattle.dp_core.specs.ComputerState.{ComputerState, control_in}
 
--- computer c: its plant, its mode with its state where it is live, its last issue and how many frames it was stepped over; where it
+-- computer c: its plant, its mode with its state where it is live, its last issue and how many
+-- frames it was stepped over; where it
 -- is live the frames that came and that it hasn't done, where it is aligning the newest sixteen
-pub record ComputerRepresents (p : Plant) (c : ℕ) (h : List Moment) (x : ComputerState) : Type 0 where
+pub record ComputerRepresents (p : Plant) (c : ℕ) (h : List Moment)
+    (x : ComputerState) : Type 0 where
   pub plant : x.plant ≡ p
   pub control : x.control ≡ control_in (mode c h) (trajectory p c h)
   pub next : (mode c h ≡ Off → ⊥) → x.next ≡ cycles_begun h
@@ -30,7 +32,8 @@ unfoldable pub newest_cycle : ℕ → Option ℕ
 newest_cycle zero = None
 newest_cycle (suc n) = Some n
 
--- voter k: its limits, its cycle, the orders taken and the ballot given in it, the last fresh force, and how many cycles in a row have
+-- voter k: its limits, its cycle, the orders taken and the ballot given in it, the last fresh
+-- force, and how many cycles in a row have
 -- no fresh ballot, counted up to 6
 pub record VoterRepresents (p : Plant) (k : ℕ) (h : List Moment) (v : VoterState) : Type 0 where
   pub low : v.low ≡ low_of p k

@@ -1,4 +1,5 @@
--- A computer's trajectory: the cycles of control that it went through since it was last broken, over the frames that came.
+-- A computer's trajectory: the cycles of control that it went through since it was last broken,
+-- over the frames that came.
 use Rattle.std.specs.Prelude.{ℕ, ◌+◌, ◌||◌, List, [], ◌∷◌, Option, None, is_some, if◌then◌else◌, unwrap_or}
 use Rattle.std.specs.Option.{option_or}
 use Rattle.dp_plant.specs.declared.plant.Plant.{Plant}
@@ -17,7 +18,8 @@ runs c (m ∷ h) =
     if is_break c m || is_base c m then 0
     else (if is_some (issue_at c m) then runs c h + 1 else runs c h)
 
--- what a trajectory goes on from at its base, by what it had come to: a skewed one is at rest at the skew's place
+-- what a trajectory goes on from at its base, by what it had come to: a skewed one is at rest at
+-- the skew's place
 unfoldable pub state_at_base : ℕ → Moment → State → State
 state_at_base c m s = rest_in s (unwrap_or (place_of_skew c m.event) zero_place)
 

@@ -105,7 +105,8 @@ unfoldable pub is_delivery : ℕ → ℕ → Event → Bool
 is_delivery a k (Order b j) = (b == a) && (j == k)
 is_delivery a k _ = false
 
--- before the first vote of voter k in this cycle computer a's issue of this cycle was delivered to it
+-- before the first vote of voter k in this cycle computer a's issue of this cycle was delivered to
+-- it
 unfoldable pub is_delivered : ℕ → ℕ → List Moment → Bool
 is_delivered k a [] = false
 is_delivered k a (m ∷ h) =

@@ -1,6 +1,5 @@
 //! The built-in plant's thrusters can give what is demanded.
-ghost use Rattle.dp_plant.specs.BuiltInPlant.{built_in_plant};
-ghost use Rattle.dp_plant.specs.SoundPlant.{IsSoundPlant};
+ghost use Rattle.dp_plant.specs.{IsSoundPlant, built_in_plant};
 ghost use Rattle.dp_core.specs.CanGiveDemand.{CanGiveDemand};
 
 use dp_fixed::laws::floor_is_exact;

@@ -1,8 +1,6 @@
 //! One computer of three: it takes in frames, keeps up to 16 of them, and steps over the oldest when it runs.
 ghost use Rattle.std.specs.Prelude.{◌≡◌, ◌≢◌, ◌^◌, IfOk, option_copied};
-ghost use Rattle.dp_plant.specs.FrameRanges.{IsFrameWithin};
-ghost use Rattle.dp_plant.specs.Ranges.{IsVectorWithin};
-ghost use Rattle.dp_plant.specs.SoundPlant.{IsSoundPlant};
+ghost use Rattle.dp_plant.specs.{IsFrameWithin, IsSoundPlant, IsVectorWithin};
 ghost use Rattle.dp_plant.specs.declared.voting.Mode.TheVariants.{Off};
 ghost use Rattle.dp_core.specs.ComputerState.{after_run, after_skew, after_stop, after_wire, first_computer, mode_of, run_answer, skew_answer, wire_answer};
 

@@ -1,12 +1,10 @@
 //! Three computers and a voter for each thruster: what each event does to them.
 ghost use Rattle.std.specs.Prelude.{◌≡◌, ◌<◌, ◌≤ℤ◌, ◌^◌, ℕ, List, [], ◌∷◌, IfOk, map, length, Some, slice_get, option_copied};
 ghost use Rattle.std.specs.Option.{option_map};
-ghost use Rattle.dp_plant.specs.FrameRanges.{IsFrameWithin};
-ghost use Rattle.dp_plant.specs.Ranges.{IsVectorWithin};
-ghost use Rattle.dp_plant.specs.SoundPlant.{IsSoundPlant};
+ghost use Rattle.dp_plant.specs.{IsFrameWithin, IsSoundPlant, IsVectorWithin};
 ghost use Rattle.dp_plant.specs.declared.thrusters.Thruster.{Thruster};
-ghost use Rattle.dp_voter.specs.Orders.{answer_of};
-ghost use Rattle.dp_voter.specs.VoterState.{VoterState, begun};
+ghost use Rattle.dp_voter.specs.{answer_of, begun};
+ghost use Rattle.dp_voter.specs.VoterState.{VoterState};
 ghost use Rattle.dp_core.specs.ComputerState.{ComputerState, after_wire, is_live, wire_answer};
 ghost use Rattle.dp_core.specs.WorldState.{last_of, message_by, voter_of};
 ghost use Rattle.dp_core.specs.WorldView.{IsInStep};

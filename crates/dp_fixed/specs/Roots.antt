@@ -10,7 +10,8 @@ pub record IsRootUp (n r : ℤ) : Type 0 where
 -- that number, as a function: the least number whose square is at least n
 unfoldable pub least_root : ℕ → ℕ
 least_root zero = 0
-least_root (suc n) = if nat_le (suc n) (least_root n * least_root n) then least_root n else least_root n + 1
+least_root (suc n) =
+    if nat_le (suc n) (least_root n * least_root n) then least_root n else least_root n + 1
 
 abbrev pub root_of : ℤ → ℤ
 root_of (pos n) = pos (least_root n)

@@ -10,8 +10,8 @@ pub mod Mix
 pub mod Axes
 pub mod Clamp
 pub mod ProductLaws
-pub use Rattle.dp_form.specs.Vectors.{entry, row}
-pub use Rattle.dp_form.specs.Form.{IsNonNegative, IsSymmetric}
+pub use Rattle.dp_form.specs.Vectors.{apply, dot, entry, row}
+pub use Rattle.dp_form.specs.Form.{HasSize, IsNonNegative, IsSymmetric, form}
 pub use Rattle.dp_form.specs.Range.{IsSmallSquare, IsWithin}
 pub use Rattle.dp_form.specs.Residual.{residual}
 pub use Rattle.dp_form.specs.Shown.{IsFirstShort, IsShown, shortfall}

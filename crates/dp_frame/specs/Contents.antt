@@ -32,7 +32,8 @@ place_or_skip None = content.Skipped
 -- what a reading brings, in the local frame round an origin
 abbrev pub content_by : ℤ × ℤ → Result Reading Skip → Content
 content_by origin (Ok (reading.Fix lat lon)) = place_or_skip (local_of origin lat lon)
-content_by origin (Ok (reading.Local north east)) = content.At (record { north = north; east = east })
+content_by origin (Ok (reading.Local north east)) =
+    content.At (record { north = north; east = east })
 content_by origin (Ok (reading.Heading heading)) = content.Heading heading
 content_by origin (Ok (reading.Wind gust)) = content.Wind gust
 content_by origin (Ok (reading.Group ready)) = content.Ready ready

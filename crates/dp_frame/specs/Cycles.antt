@@ -19,10 +19,12 @@ frames_upto n entries = map (λ k. frame_of k entries) (range_with_len 0 n)
 unfoldable pub frames_so_far : Settings → List (List ℕ) → List Frame
 frames_so_far p lines = frames_upto (last_cycle (entries p lines)) (entries p lines)
 
--- how many cycles of a record come to their end: all, or, where a line can't be taken, those before the last good line's
+-- how many cycles of a record come to their end: all, or, where a line can't be taken, those before
+-- the last good line's
 unfoldable pub record_length : Settings → List (List ℕ) → ℕ
 record_length p lines =
-    if is_some (first_refusal p lines) then last_cycle (entries p lines) else cycle_count (entries p lines)
+    if is_some (first_refusal p lines) then last_cycle (entries p lines)
+    else cycle_count (entries p lines)
 
 -- the frames of these cycles
 unfoldable pub record_frames : Settings → List (List ℕ) → List Frame
@@ -37,4 +39,5 @@ frames_given p text Done = record_frames p (all_lines text)
 -- the answers to the bytes of a text, after those of another
 unfoldable pub answers_after : Settings → List ℕ → List ℕ → List Feed
 answers_after p before [] = []
-answers_after p before (byte ∷ text) = answer_to p before byte ∷ answers_after p (before ++ byte ∷ []) text
+answers_after p before (byte ∷ text) =
+    answer_to p before byte ∷ answers_after p (before ++ byte ∷ []) text

@@ -25,11 +25,14 @@ told_or None feed = feed
 unfoldable pub closed : List Entry → List Entry → Feed
 closed before after =
     if nat_lt (last_cycle before) (last_cycle after)
-    then Closed (frame_of (last_cycle before) after) (last_cycle after - last_cycle before - 1) else More
+    then Closed (frame_of (last_cycle before) after) (last_cycle after - last_cycle before - 1)
+    else More
 
--- what is answered where the lines grow: the first line that can't be taken, else the frame that comes to its end
+-- what is answered where the lines grow: the first line that can't be taken, else the frame that
+-- comes to its end
 unfoldable pub answer : Settings → List (List ℕ) → List (List ℕ) → Feed
-answer p before after = told_or (first_refusal p after) (closed (entries p before) (entries p after))
+answer p before after =
+    told_or (first_refusal p after) (closed (entries p before) (entries p after))
 
 -- what the next byte of a text is answered: only a line that ends with a line feed is judged
 abbrev pub answer_to : Settings → List ℕ → ℕ → Feed
@@ -48,10 +51,14 @@ abbrev pub is_more : Feed → Bool
 is_more More = true
 is_more other = false
 
--- what each call of `finish` answers: what the end brings, and then the last frame, once; a line that can't be taken again and again
+-- what each call of `finish` answers: what the end brings, and then the last frame, once; a line
+-- that can't be taken again and again
 unfoldable pub ending : Settings → List ℕ → Phase → Feed
-ending p text Open = if is_more (answer_to_end p text) then last_frame (entries p (all_lines text)) else answer_to_end p text
-ending p text Last = told_or (first_refusal p (all_lines text)) (last_frame (entries p (all_lines text)))
+ending p text Open =
+    if is_more (answer_to_end p text) then last_frame (entries p (all_lines text))
+    else answer_to_end p text
+ending p text Last =
+    told_or (first_refusal p (all_lines text)) (last_frame (entries p (all_lines text)))
 ending p text Done = told_or (first_refusal p (all_lines text)) More
 
 -- how far a call of `finish` goes

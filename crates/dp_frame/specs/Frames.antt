@@ -29,9 +29,11 @@ is_group i other = false
 
 module _ {T : Type 0} where
   -- the slots of cycle n for the first `count` wires of a kind
-  unfoldable pub slots_of : (ℕ → Wire → Bool) → (Content → Brought T) → ℕ → ℕ → List Entry → List (Slot T)
+  unfoldable pub slots_of : (ℕ → Wire → Bool) → (Content → Brought T) → ℕ → ℕ → List Entry
+      → List (Slot T)
   slots_of is_wire brought count n entries =
-      map (λ i. slot_of (λ e. is_wire i e.wire && e.cycle == n) (λ e. brought e.content) entries) (range_with_len 0 count)
+      map (λ i. slot_of (λ e. is_wire i e.wire && e.cycle == n) (λ e. brought e.content) entries)
+      (range_with_len 0 count)
 
 -- the frame of cycle n
 unfoldable pub frame_of : ℕ → List Entry → Frame

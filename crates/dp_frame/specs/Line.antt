@@ -36,20 +36,24 @@ unfoldable pub judge_rest : Settings → ℕ → List ℕ → Option Wire → Ju
 judge_rest p time rest None = Faulty UnknownWire
 judge_rest p time rest (Some wire) =
     if nat_le (2 ^ 20) (time / p.cycle_ms) then TooMany (time / p.cycle_ms)
-    else Good record { time = time; cycle = time / p.cycle_ms; wire = wire; content = content_of p wire rest }
+    else Good record
+    { time = time; cycle = time / p.cycle_ms; wire = wire; content = content_of p wire rest }
 
 -- what stands after the time: the wire's name, a space, the rest
 unfoldable pub judge_wire : Settings → ℕ → List ℕ → Judged
 judge_wire p time text =
     if name_len text == 0 then Faulty NoWire
-    else judge_rest p time (drop (name_len text + 1) text) (wire_of p.groups (take (name_len text) text))
+    else judge_rest p time (drop (name_len text + 1) text)
+    (wire_of p.groups (take (name_len text) text))
 
 -- a line that isn't empty, nor too long
 unfoldable pub judge_time : Settings → ℕ → List ℕ → Judged
 judge_time p last line =
     if time_len line == 0 then Faulty NoTime
-    else if nat_lt 15 (time_len line) || not (is_space (slice_index line (time_len line))) then Faulty BadTime
-    else if nat_lt (number_of (take (time_len line) line)) last then Faulty (TimeBack last (number_of (take (time_len line) line)))
+    else if nat_lt 15 (time_len line) || not (is_space (slice_index line (time_len line)))
+    then Faulty BadTime
+    else if nat_lt (number_of (take (time_len line) line)) last
+    then Faulty (TimeBack last (number_of (take (time_len line) line)))
     else judge_wire p (number_of (take (time_len line) line)) (after_time line)
 
 -- the first fault that holds is named; the cycle is judged last

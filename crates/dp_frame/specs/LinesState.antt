@@ -4,7 +4,8 @@ use Rattle.dp_frame.specs.declared.progress.Progress.{Progress}
 use Rattle.dp_frame.specs.declared.feed.Phase.{Phase}
 use Rattle.dp_frame.specs.Progresses.{IsSoundProgress}
 
--- what is kept of the lines that have ended, the first 193 bytes of the line that hasn't, the number of its bytes, how many bytes were
+-- what is kept of the lines that have ended, the first 193 bytes of the line that hasn't, the
+-- number of its bytes, how many bytes were
 -- fed, and how far the record was read
 pub record LinesState : Type 0 where
   pub progress : Progress

@@ -21,7 +21,8 @@ whole_turn = pos 216000000000
 abbrev pub hundredths_of : ℤ → ℕ
 hundredths_of lat = unsigned_abs lat / 6000000
 
--- the cosine of a latitude, over the scale: by it a minute of longitude is shorter than one of latitude
+-- the cosine of a latitude, over the scale: by it a minute of longitude is shorter than one of
+-- latitude
 abbrev pub cosine_at : ℤ → ℤ
 cosine_at lat = (pair_of (hundredths_of lat)).0
 
@@ -29,9 +30,11 @@ cosine_at lat = (pair_of (hundredths_of lat)).0
 abbrev pub northing : ℤ → ℤ → ℤ
 northing lat0 lat = arc_length *ℤ (lat -ℤ lat0)
 
--- how far a longitude is east of the origin's, the short way round, where a parallel of latitude has this cosine; rounded down
+-- how far a longitude is east of the origin's, the short way round, where a parallel of latitude
+-- has this cosine; rounded down
 abbrev pub easting : ℤ → ℤ → ℤ → ℤ
-easting cosine lon0 lon = floor_of (cosine *ℤ (arc_length *ℤ wrap_of (lon -ℤ lon0) whole_turn)) full_scale
+easting cosine lon0 lon =
+    floor_of (cosine *ℤ (arc_length *ℤ wrap_of (lon -ℤ lon0) whole_turn)) full_scale
 
 -- a coordinate of the frame lies within 2^43 nm of the origin, about 8.8 km
 abbrev pub is_in_frame : ℤ → Bool
@@ -40,11 +43,14 @@ is_in_frame x = nat_le (unsigned_abs x) (2 ^ 43)
 -- the place with these coordinates, if both lie in the frame
 abbrev pub place_in_frame : ℤ → ℤ → Option Place
 place_in_frame north east =
-    if is_in_frame north && is_in_frame east then Some (record { north = north; east = east }) else None
+    if is_in_frame north && is_in_frame east then Some (record { north = north; east = east })
+    else None
 
--- the place of a latitude and a longitude in the frame round an origin (its latitude and longitude): none where it is outside
+-- the place of a latitude and a longitude in the frame round an origin (its latitude and
+-- longitude): none where it is outside
 unfoldable pub local_of : ℤ × ℤ → ℤ → ℤ → Option Place
-local_of origin lat lon = place_in_frame (northing origin.0 lat) (easting (cosine_at origin.0) origin.1 lon)
+local_of origin lat lon =
+    place_in_frame (northing origin.0 lat) (easting (cosine_at origin.0) origin.1 lon)
 
 -- the origin of a plant's frame
 abbrev pub origin_of : Plant → ℤ × ℤ

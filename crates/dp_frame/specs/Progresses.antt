@@ -7,7 +7,8 @@ use Rattle.dp_frame.specs.Frames.{frame_of, IsFrameBounded, IsBefore}
 use Rattle.dp_frame.specs.Ranges.{IsFrameInRange}
 use Rattle.dp_frame.specs.Record.{entries, first_refusal, is_begun, last_cycle, last_time}
 
--- while every line was taken: their number, the last time, whether one wasn't empty, and the frame of the last cycle so far
+-- while every line was taken: their number, the last time, whether one wasn't empty, and the frame
+-- of the last cycle so far
 pub record Keeps (b : Progress) (lines : List (List ℕ)) : Type 0 where
   pub number : b.number ≡ length lines
   pub last : b.last ≡ last_time lines
@@ -30,7 +31,8 @@ pub record IsSoundProgress (b : Progress) : Type 0 where
   pub bounded : IsFrameBounded b.number b.kept
   pub range : IsFrameInRange b.settings.groups b.kept
 
--- an entry that may follow others: its cycle isn't before the last, and no entry's is after the last
+-- an entry that may follow others: its cycle isn't before the last, and no entry's is after the
+-- last
 pub record Follows (before : List Entry) (e : Entry) : Type 0 where
   pub later : last_cycle before ≤ e.cycle
   pub rising : (n : ℕ) → last_cycle before < n → IsBefore n before

@@ -35,5 +35,6 @@ pub record IsFrameInRange (groups : ℕ) (f : Frame) : Type 0 where
 
 -- the frames that an answer gives are in range
 abbrev pub IsFeedInRange : ℕ → Feed → Type 0
-IsFeedInRange groups (Closed frame empty) = IsFrameInRange groups frame × (frame.cycle + empty < 2 ^ 20)
+IsFeedInRange groups (Closed frame empty) =
+    IsFrameInRange groups frame × (frame.cycle + empty < 2 ^ 20)
 IsFeedInRange groups other = ⊤

@@ -1,4 +1,5 @@
--- The lines of a record, and which of them are good. Lines and entries are taken newest first here, so that those before one are a
+-- The lines of a record, and which of them are good. Lines and entries are taken newest first here,
+-- so that those before one are a
 -- list's rest.
 use Rattle.std.specs.Prelude.{ℕ, ◌+◌, List, [], ◌∷◌, Bool, true, false, ◌==◌, is_some, if◌then◌else◌, Option, Some, None, length, reverse}
 use Rattle.std.specs.List.{slice_split, filter_map}
@@ -45,12 +46,15 @@ refusal_of number (judged.TooMany cycle) = Some (TooMany number cycle)
 unfoldable pub first_refusal : Settings → List (List ℕ) → Option Refusal
 first_refusal p [] = None
 first_refusal p (line ∷ before) =
-    option_or (first_refusal p before) (refusal_of (length before + 1) (judge p (last_time before) line))
+    option_or (first_refusal p before)
+    (refusal_of (length before + 1) (judge p (last_time before) line))
 
 -- the lines before it
 unfoldable pub good_lines : Settings → List (List ℕ) → List (List ℕ)
 good_lines p [] = []
-good_lines p (line ∷ before) = if is_some (first_refusal p (line ∷ before)) then good_lines p before else line ∷ good_lines p before
+good_lines p (line ∷ before) =
+    if is_some (first_refusal p (line ∷ before)) then good_lines p before
+    else line ∷ good_lines p before
 
 abbrev pub entry_by : Judged → Option Entry
 entry_by (judged.Good entry) = Some entry

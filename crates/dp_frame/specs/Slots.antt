@@ -1,4 +1,5 @@
--- What the lines of one wire and cycle come to in a slot, whatever the type of its readings. Entries are newest first.
+-- What the lines of one wire and cycle come to in a slot, whatever the type of its readings.
+-- Entries are newest first.
 use Rattle.std.specs.Prelude.{ℕ, ◌+◌, Bool, true, false, ◌&&◌, List, [], ◌∷◌, if◌then◌else◌, count_by, Option, Some, None}
 use Rattle.dp_plant.specs.declared.place.Place.{Place}
 use Rattle.dp_plant.specs.declared.frames.Gust.{Gust}
@@ -9,7 +10,8 @@ use Rattle.dp_frame.specs.declared.entry.Entry.{Entry}
 use Rattle.dp_frame.specs.declared.entry.Content.{Content}
 use Rattle.dp_frame.specs.declared.entry.Content.TheVariants as content
 
--- what a line brings for a slot of places, and for one of headings, of winds, and of groups' states: a reading of another kind is none
+-- what a line brings for a slot of places, and for one of headings, of winds, and of groups'
+-- states: a reading of another kind is none
 abbrev pub place_of : Content → Brought Place
 place_of (content.At place) = Reading place
 place_of content.Damaged = Damaged
@@ -51,7 +53,8 @@ module _ {T : Type 0} where
   unfoldable pub last_reading : (Entry → Bool) → (Entry → Brought T) → List Entry → Option T
   last_reading passes brought [] = None
   last_reading passes brought (e ∷ before) =
-      if passes e then latest (brought e) (last_reading passes brought before) else last_reading passes brought before
+      if passes e then latest (brought e) (last_reading passes brought before)
+      else last_reading passes brought before
 
   -- their last reading, and the numbers of those that are damaged and that are skipped
   unfoldable pub slot_of : (Entry → Bool) → (Entry → Brought T) → List Entry → Slot T

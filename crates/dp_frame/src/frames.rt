@@ -1,10 +1,7 @@
 //! Frames: what each wire brought in one cycle.
 ghost use Rattle.std.specs.Prelude.{◌≡◌, ◌<◌, ◌^◌, ◌-◌, ◌+◌, List, ◌∷◌, ℕ};
 ghost use Rattle.dp_frame.specs.declared.entry.Entry.{Entry};
-ghost use Rattle.dp_frame.specs.Slots.{counted_slot, no_slot};
-ghost use Rattle.dp_frame.specs.Frames.{frame_of, no_frame, IsFrameBounded};
-ghost use Rattle.dp_frame.specs.Ranges.{IsEntryWithin, IsFrameInRange};
-ghost use Rattle.dp_frame.specs.Wires.{IsWire};
+ghost use Rattle.dp_frame.specs.{IsEntryWithin, IsFrameBounded, IsFrameInRange, IsWire, counted_slot, frame_of, no_frame, no_slot};
 
 use crate::entry::{Brought, Entry};
 use dp_plant::{Frame, Slot, Wire};
@@ -52,13 +49,18 @@ fn counted<T: Copy>(slot: Slot<T>, brought: Brought<T>) -> Slot<T>
 pub(crate) fn note(frame: &mut Frame, entry: &Entry)
     requires wire { IsWire 8 entry.now.wire }
     requires room { IsFrameBounded (2 ^ 40 - 1) frame.old }
-    ensures noted { (es : List Entry) → frame.old ≡ frame_of entry.now.cycle es → frame.new ≡ frame_of entry.now.cycle (entry.now ∷ es) }
+    ensures noted { (es : List Entry) → frame.old ≡ frame_of entry.now.cycle es
+        → frame.new ≡ frame_of entry.now.cycle (entry.now ∷ es) }
     ensures bounded { (n : ℕ) → IsFrameBounded n frame.old → IsFrameBounded (n + 1) frame.new }
-    ensures range { (groups : ℕ) → IsFrameInRange groups frame.old → IsEntryWithin groups entry.now → IsFrameInRange groups frame.new }
+    ensures range { (groups : ℕ) → IsFrameInRange groups frame.old → IsEntryWithin groups entry.now
+        → IsFrameInRange groups frame.new }
     ensures cycle { frame.new.cycle ≡ frame.old.cycle }
 {
     match entry.wire {
-        Wire::Pos(i) => frame.pos[i as usize] = counted(frame.pos[i as usize], entry.content.place()),
+        Wire::Pos(i) => frame.pos[i as usize] = counted(
+            frame.pos[i as usize],
+            entry.content.place(),
+        ),
         Wire::Gyro(i) => frame.gyro[i as usize] = counted(
             frame.gyro[i as usize],
             entry.content.heading(),

@@ -1,9 +1,6 @@
 //! The judgement on one line.
 ghost use Rattle.std.specs.Prelude.{◌≡◌, ◌≤◌, length, IfSome};
-ghost use Rattle.dp_frame.specs.Progresses.{IsReadable};
-ghost use Rattle.dp_frame.specs.Ranges.{IsJudgedWithin};
-ghost use Rattle.dp_frame.specs.Line.{judge, judge_rest, judge_time, judge_wire, name_len, number_of, time_len};
-ghost use Rattle.dp_frame.specs.Wires.{IsWire};
+ghost use Rattle.dp_frame.specs.{IsJudgedWithin, IsReadable, IsWire, judge, judge_rest, judge_time, judge_wire, name_len, number_of, time_len};
 
 use crate::LineFault;
 use crate::entry::{Entry, Judged};

@@ -1,6 +1,5 @@
 //! What holds of every record: each function's contract is the law.
-ghost use Rattle.dp_frame.specs.Laws.{AnswersGive, ClosedIsNext, FeedGives, FinishGives, FinishGivesAll};
-ghost use Rattle.dp_frame.specs.Laws.{FramesLast, PrefixOfRecord, RefusalLasts, ToldIsFirst};
+ghost use Rattle.dp_frame.specs.{AnswersGive, ClosedIsNext, FeedGives, FinishGives, FinishGivesAll, FramesLast, PrefixOfRecord, RefusalLasts, ToldIsFirst};
 
 /// Each byte adds to the frames that are over just those that it is answered: the frame that it closes and the empty ones behind it.
 pub fn feed_gives()

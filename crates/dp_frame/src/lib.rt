@@ -42,7 +42,6 @@
 //! Not proved: that no call takes memory, and that each byte is looked at a fixed number of times.
 #![tactic(auto)]
 
-mod progress;
 mod entry;
 mod fault;
 mod feed;
@@ -51,6 +50,7 @@ mod judging;
 pub mod laws;
 mod lines;
 mod origin;
+mod progress;
 mod sensing;
 mod settings;
 mod wires;

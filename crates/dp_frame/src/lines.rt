@@ -1,13 +1,13 @@
 ghost use Rattle.std.specs.Prelude.{◌≡◌, ◌≢◌, ◌+◌, ◌^◌, ◌<◌, ◌≤◌, ℕ, List, [], ◌∷◌, ◌++◌, None, length, take, true};
-ghost use Rattle.dp_text.specs.Lines.{stripped};
+ghost use Rattle.dp_text.specs.{stripped};
 ghost use Rattle.dp_frame.specs.Record.{all_lines, first_refusal};
 ghost use Rattle.dp_frame.specs.Feeds.{answer_to, calls_left, ClosesCycle, ending, given, is_closed, phase_after};
 ghost use Rattle.dp_frame.specs.Ranges.{IsFeedInRange};
 ghost use Rattle.dp_frame.specs.LocalFrame.{IsOrigin, origin_of};
 ghost use Rattle.dp_frame.specs.Represents.{IsOpen, Represents, RepresentsWhole, settings_of};
 
-use crate::progress::Progress;
 use crate::frames::empty_frame;
+use crate::progress::Progress;
 use crate::settings::Settings;
 use crate::{Feed, Origin, Phase};
 use arrayvec::ArrayVec;
@@ -52,7 +52,8 @@ fn strip(line: &[u8]) -> &[u8]
 
 /// Keeps the next byte, where there is room.
 fn keep(prefix: &mut ArrayVec<u8, 193>, byte: u8)
-    ensures kept { length prefix.old.items ≤ 193 → prefix.new.items ≡ take 193 (prefix.old.items ++ byte ∷ []) }
+    ensures kept { length prefix.old.items ≤ 193
+        → prefix.new.items ≡ take 193 (prefix.old.items ++ byte ∷ []) }
     ensures short { length prefix.old.items ≤ 193 → length prefix.new.items ≤ 193 }
 {
     if prefix.len() < 193 {
@@ -65,7 +66,11 @@ fn whole(prefix: &[u8], prefix_len: u64) -> &[u8]
     ensures short { prefix_len ≤ 193 → result.now ≡ stripped prefix.now }
     ensures long { 193 < prefix_len → result.now ≡ prefix.now }
 {
-    if prefix_len > 193 { prefix } else { strip(prefix) }
+    if prefix_len > 193 {
+        prefix
+    } else {
+        strip(prefix)
+    }
 }
 
 impl Lines {
@@ -112,13 +117,16 @@ impl Lines {
     pub fn feed(&mut self, byte: u8) -> Feed
         requires open { IsOpen self.old }
         requires few { self.old.bytes < 2 ^ 40 }
-        ensures represents { (text : List ℕ) → Represents self.old text → Represents self.new (text ++ byte ∷ []) }
-        ensures answer { (text : List ℕ) → Represents self.old text → result ≡ answer_to self.old.progress.settings text byte }
+        ensures represents { (text : List ℕ) → Represents self.old text
+            → Represents self.new (text ++ byte ∷ []) }
+        ensures answer { (text : List ℕ) → Represents self.old text
+            → result ≡ answer_to self.old.progress.settings text byte }
 
         // The frame that is closed is of the kept frame's cycle, and the next kept one follows it and the empty ones.
         ensures range { IsFeedInRange self.old.progress.settings.groups result }
         ensures closes { ClosesCycle self.old.progress.kept.cycle result }
-        ensures next { self.new.progress.kept.cycle ≡ self.old.progress.kept.cycle + length (given result) }
+        ensures next { self.new.progress.kept.cycle
+            ≡ self.old.progress.kept.cycle + length (given result) }
 
         ensures bytes { self.new.bytes ≡ self.old.bytes + 1 }
         ensures settings { self.new.progress.settings ≡ self.old.progress.settings }
@@ -142,17 +150,22 @@ impl Lines {
         requires open { IsOpen self.old }
         requires few { self.old.bytes < 2 ^ 40 }
         requires going { self.old.progress.refusal ≡ None }
-        ensures represents { (text : List ℕ) → Represents self.old text → Represents self.new (text ++ 10 ∷ []) }
-        ensures answer { (text : List ℕ) → Represents self.old text → result ≡ answer_to self.old.progress.settings text 10 }
+        ensures represents { (text : List ℕ) → Represents self.old text
+            → Represents self.new (text ++ 10 ∷ []) }
+        ensures answer { (text : List ℕ) → Represents self.old text
+            → result ≡ answer_to self.old.progress.settings text 10 }
         ensures range { IsFeedInRange self.old.progress.settings.groups result }
         ensures closes { ClosesCycle self.old.progress.kept.cycle result }
-        ensures next { self.new.progress.kept.cycle ≡ self.old.progress.kept.cycle + length (given result) }
+        ensures next { self.new.progress.kept.cycle
+            ≡ self.old.progress.kept.cycle + length (given result) }
         ensures bytes { self.new.bytes ≡ self.old.bytes + 1 }
         ensures settings { self.new.progress.settings ≡ self.old.progress.settings }
         ensures open_still { IsOpen self.new }
     {
         self.bytes += 1;
-        let answer = self.progress.line(whole(self.prefix.as_slice(), self.prefix_len));
+        let answer = self
+            .progress
+            .line(whole(self.prefix.as_slice(), self.prefix_len));
         self.prefix.clear();
         self.prefix_len = 0;
         answer
@@ -162,16 +175,20 @@ impl Lines {
     /// then the last frame, once, if the record has a good line that isn't empty. After that it answers [`Feed::More`]; where a line can't
     /// be taken it names that line again and again, and gives no last frame.
     pub fn finish(&mut self) -> Feed
-        ensures represents { (text : List ℕ) → RepresentsWhole self.old text → RepresentsWhole self.new text }
-        ensures answer { (text : List ℕ) → RepresentsWhole self.old text → result ≡ ending self.old.progress.settings text self.old.phase }
+        ensures represents { (text : List ℕ) → RepresentsWhole self.old text
+            → RepresentsWhole self.new text }
+        ensures answer { (text : List ℕ) → RepresentsWhole self.old text
+            → result ≡ ending self.old.progress.settings text self.old.phase }
         ensures phase { (text : List ℕ) → RepresentsWhole self.old text → first_refusal self.old.progress.settings (all_lines text) ≡ None
             → self.new.phase ≡ phase_after self.old.progress.settings text self.old.phase }
 
         // A frame is closed at most twice: by the last line, and as the last frame.
-        ensures fewer { is_closed result ≡ true → calls_left self.new.phase < calls_left self.old.phase }
+        ensures fewer { is_closed result ≡ true
+            → calls_left self.new.phase < calls_left self.old.phase }
         ensures range { IsFeedInRange self.old.progress.settings.groups result }
         ensures closes { ClosesCycle self.old.progress.kept.cycle result }
-        ensures next { self.new.phase ≢ Phase.Done → self.new.progress.kept.cycle ≡ self.old.progress.kept.cycle + length (given result) }
+        ensures next { self.new.phase ≢ Phase.Done
+            → self.new.progress.kept.cycle ≡ self.old.progress.kept.cycle + length (given result) }
         ensures settings { self.new.progress.settings ≡ self.old.progress.settings }
     {
         if let Some(refusal) = self.progress.refusal {
@@ -191,14 +208,17 @@ impl Lines {
     fn last_line(&mut self) -> Feed
         requires open { IsOpen self.old }
         requires going { self.old.progress.refusal ≡ None }
-        ensures represents { (text : List ℕ) → Represents self.old text → RepresentsWhole self.new text }
-        ensures answer { (text : List ℕ) → Represents self.old text → result ≡ ending self.old.progress.settings text Phase.Open }
+        ensures represents { (text : List ℕ) → Represents self.old text
+            → RepresentsWhole self.new text }
+        ensures answer { (text : List ℕ) → Represents self.old text
+            → result ≡ ending self.old.progress.settings text Phase.Open }
         ensures phase { (text : List ℕ) → Represents self.old text → first_refusal self.old.progress.settings (all_lines text) ≡ None
             → self.new.phase ≡ phase_after self.old.progress.settings text Phase.Open }
         ensures fewer { calls_left self.new.phase < 2 }
         ensures range { IsFeedInRange self.old.progress.settings.groups result }
         ensures closes { ClosesCycle self.old.progress.kept.cycle result }
-        ensures next { self.new.phase ≢ Phase.Done → self.new.progress.kept.cycle ≡ self.old.progress.kept.cycle + length (given result) }
+        ensures next { self.new.phase ≢ Phase.Done
+            → self.new.progress.kept.cycle ≡ self.old.progress.kept.cycle + length (given result) }
         ensures settings { self.new.progress.settings ≡ self.old.progress.settings }
     {
         if self.prefix_len == 0 {

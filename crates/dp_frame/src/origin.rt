@@ -1,6 +1,6 @@
 //! The local frame: places in nanometres north and east of an origin.
 ghost use Rattle.std.specs.Prelude.{◌≡◌, ◌^◌, ◌≤◌, IfSome, unsigned_abs};
-ghost use Rattle.dp_plant.specs.Ranges.{IsVectorWithin};
+ghost use Rattle.dp_plant.specs.{IsVectorWithin};
 ghost use Rattle.dp_frame.specs.LocalFrame as LocalFrame;
 ghost use Rattle.dp_frame.specs.LocalFrame.{IsCosineAt, IsOrigin, local_of, origin_of};
 

@@ -81,7 +81,8 @@ impl Progress {
         requires going { self.old.refusal ≡ None }
         requires sound { IsSoundProgress self.old }
         requires few { self.old.number < 2 ^ 40 }
-        ensures represents { (lines : List (List ℕ)) → ProgressRepresents self.old lines → ProgressRepresents self.new (line.now ∷ lines) }
+        ensures represents { (lines : List (List ℕ)) → ProgressRepresents self.old lines
+            → ProgressRepresents self.new (line.now ∷ lines) }
         ensures answer { (lines : List (List ℕ)) → ProgressRepresents self.old lines
             → result ≡ answer self.old.settings lines (line.now ∷ lines) }
         ensures range { IsFeedInRange self.old.settings.groups result }

@@ -1,9 +1,7 @@
 //! What stands after the wire.
 ghost use Rattle.std.specs.Prelude.{◌≡◌, IfOk};
-ghost use Rattle.dp_nav.specs.Plain.{is_plain};
-ghost use Rattle.dp_nav.specs.ReadingRanges.{IsReadingWithin};
-ghost use Rattle.dp_frame.specs.Ranges.{IsContentWithin};
-ghost use Rattle.dp_frame.specs.Contents.{kind_of, content_by, content_of};
+ghost use Rattle.dp_nav.specs.{IsReadingWithin, is_plain};
+ghost use Rattle.dp_frame.specs.{IsContentWithin, content_by, content_of, kind_of};
 
 use crate::Origin;
 use crate::entry::Content;

@@ -1,6 +1,6 @@
 //! The names of the wires.
 ghost use Rattle.std.specs.Prelude.{◌≡◌, ◌<◌, ◌≤◌, IfSome};
-ghost use Rattle.dp_frame.specs.Wires.{IsWire, numbered, wire_of};
+ghost use Rattle.dp_frame.specs.{IsWire, numbered, wire_of};
 
 use dp_plant::Wire;
 

@@ -15,4 +15,5 @@ weighted_speed g = alike (pos g.speed)
 
 -- the angles as headings are fused, and the speeds, which all count alike
 abbrev pub fused_gust : ℕ → List Gust → Option Gust
-fused_gust base gusts = gust_of (fused_angle base (map (λ g. g.angle) gusts)) (fuse (map weighted_speed gusts))
+fused_gust base gusts =
+    gust_of (fused_angle base (map (λ g. g.angle) gusts)) (fuse (map weighted_speed gusts))

@@ -14,7 +14,8 @@ pub record IsInHull (a b : Place) (y : Option Place) : Type 0 where
   pub east : IsBetween a.east b.east at.east
 
 -- the place that three references give, of which one or more may be missing
-abbrev pub fused_by_three : Option WeightedPlace → Option WeightedPlace → Option WeightedPlace → Option Place
+abbrev pub fused_by_three : Option WeightedPlace → Option WeightedPlace → Option WeightedPlace
+    → Option Place
 fused_by_three o p q = fused_place (cons_option o (cons_option p (cons_option q [])))
 
 -- where two references are a and b, it is in their hull
@@ -25,4 +26,6 @@ pub record IsInHullOfAnyTwo (a b : WeightedPlace) (o p q : Option WeightedPlace)
 
 -- whatever the third reference says, and wherever it stands
 abbrev pub FusedPlaceIsInHullOfTwo : Type 0
-FusedPlaceIsInHullOfTwo = (a b : WeightedPlace) → pos 1 ≤ℤ a.weight → pos 1 ≤ℤ b.weight → (o p q : Option WeightedPlace) → IsInHullOfAnyTwo a b o p q
+FusedPlaceIsInHullOfTwo =
+    (a b : WeightedPlace) → pos 1 ≤ℤ a.weight → pos 1 ≤ℤ b.weight → (o p q : Option WeightedPlace)
+    → IsInHullOfAnyTwo a b o p q

@@ -11,13 +11,16 @@ use Rattle.dp_fuse.specs.declared.places.WeightedPlace.{WeightedPlace}
 use Rattle.dp_fuse.specs.declared.weighted.Weighted.{Weighted}
 use Rattle.dp_fuse.specs.Fuse.{fuse}
 
--- how far north, in nm, a lever arm in mm (ahead and to starboard) reaches, by the sine pair (cosine first) of the heading
+-- how far north, in nm, a lever arm in mm (ahead and to starboard) reaches, by the sine pair
+-- (cosine first) of the heading
 unfoldable pub arm_north : ℤ × ℤ → ℤ × ℤ → ℤ
-arm_north pair lever = floor_of (pos (10 ^ 6) *ℤ ((pair.0 *ℤ lever.0) -ℤ (pair.1 *ℤ lever.1))) full_scale
+arm_north pair lever =
+    floor_of (pos (10 ^ 6) *ℤ ((pair.0 *ℤ lever.0) -ℤ (pair.1 *ℤ lever.1))) full_scale
 
 -- how far east it reaches
 unfoldable pub arm_east : ℤ × ℤ → ℤ × ℤ → ℤ
-arm_east pair lever = floor_of (pos (10 ^ 6) *ℤ ((pair.1 *ℤ lever.0) +ℤ (pair.0 *ℤ lever.1))) full_scale
+arm_east pair lever =
+    floor_of (pos (10 ^ 6) *ℤ ((pair.1 *ℤ lever.0) +ℤ (pair.0 *ℤ lever.1))) full_scale
 
 -- the place of the vessel's origin, by that of a reference and its lever arm
 abbrev pub without_lever : ℤ × ℤ → ℤ × ℤ → Place → Place
@@ -28,7 +31,8 @@ without_lever pair lever at = record {
 
 -- where a reference says that the vessel is, and how much it counts
 abbrev pub origin_by : ℤ × ℤ → ℤ × ℤ → Verdict → Option WeightedPlace
-origin_by pair lever (Usable at weight) = Some (record { weight = pos weight; at = without_lever pair lever at })
+origin_by pair lever (Usable at weight) =
+    Some (record { weight = pos weight; at = without_lever pair lever at })
 origin_by pair lever Silent = None
 origin_by pair lever (Stale age) = None
 origin_by pair lever Frozen = None
@@ -37,7 +41,8 @@ origin_by pair lever (Noisy variance) = None
 
 -- the same of reference i of a list
 abbrev pub origin_of : ℤ × ℤ → List (ℤ × ℤ) → List Verdict → ℕ → Option WeightedPlace
-origin_of pair levers verdicts i = origin_by pair (slice_index_or levers i (pos 0, pos 0)) (slice_index_or verdicts i Silent)
+origin_of pair levers verdicts i =
+    origin_by pair (slice_index_or levers i (pos 0, pos 0)) (slice_index_or verdicts i Silent)
 
 -- where those of the three references that are usable say that the vessel is
 abbrev pub origins_by : ℤ × ℤ → List (ℤ × ℤ) → List Verdict → List WeightedPlace

@@ -1,9 +1,7 @@
 ghost use Rattle.std.specs.Prelude.{◌≡◌, ◌≤◌, ◌<◌, ◌^◌, IfSome, pos, ◌-ℤ◌, ◌+ℤ◌, unsigned_abs, []};
 ghost use Rattle.std.specs.List.{AllByRecursion, cons_option};
 ghost use Rattle.std.specs.Option.{option_map};
-ghost use Rattle.dp_fuse.specs.Angles.{fused_angle, turn_from, turned_by, weighted_turn};
-ghost use Rattle.dp_fuse.specs.Fuse.{present};
-ghost use Rattle.dp_fuse.specs.Ranges.{IsWeighted};
+ghost use Rattle.dp_fuse.specs.{IsWeighted, fused_angle, present, turn_from, turned_by, weighted_turn};
 
 use crate::weighted::{Weighted, fuse};
 use dp_fixed::{narrow, wrap};

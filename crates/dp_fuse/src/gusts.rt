@@ -1,9 +1,7 @@
 ghost use Rattle.std.specs.Prelude.{◌≡◌, ◌≤◌, ◌<◌, ◌^◌, ◌≤ℤ◌, ◌<ℤ◌, IfSome, pos, unsigned_abs, []};
 ghost use Rattle.std.specs.Option.{option_map};
 ghost use Rattle.std.specs.List.{AllByRecursion, cons_option};
-ghost use Rattle.dp_fuse.specs.Fuse.{fuse, present};
-ghost use Rattle.dp_fuse.specs.Gusts.{fused_gust, gust_of, weighted_speed};
-ghost use Rattle.dp_fuse.specs.Ranges.{IsGust, IsSpeed, IsWeighted};
+ghost use Rattle.dp_fuse.specs.{IsGust, IsSpeed, IsWeighted, fuse, fused_gust, gust_of, present, weighted_speed};
 
 use crate::angles::fused_angle;
 use crate::weighted::{Weighted, fuse};

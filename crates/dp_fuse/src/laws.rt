@@ -1,5 +1,5 @@
 //! What holds of the fused place, for all weights and places.
-ghost use Rattle.dp_fuse.specs.Laws.{FusedPlaceIsInHullOfTwo};
+ghost use Rattle.dp_fuse.specs.{FusedPlaceIsInHullOfTwo};
 
 /// Where two references are usable, each coordinate of the fused place lies between theirs, whatever the third says and wherever it
 /// stands among them.

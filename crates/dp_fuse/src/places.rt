@@ -1,10 +1,8 @@
 ghost use Rattle.std.specs.Prelude.{◌≡◌, ◌≤◌, ◌^◌, ◌*◌, All, IfSome, pos, ◌-ℤ◌, ◌+ℤ◌, ◌*ℤ◌, unsigned_abs, []};
 ghost use Rattle.std.specs.List.{AllByRecursion, cons_option};
 ghost use Rattle.std.specs.Option.{option_map};
-ghost use Rattle.dp_fixed.specs.Division.{floor_of};
-ghost use Rattle.dp_fixed.specs.Scale.{full_scale};
-ghost use Rattle.dp_plant.specs.Ranges.{IsMeasuredPlace, IsPair, IsVectorWithin};
-ghost use Rattle.dp_plant.specs.SoundPlant.{IsLever};
+ghost use Rattle.dp_fixed.specs.{floor_of, full_scale};
+ghost use Rattle.dp_plant.specs.{IsLever, IsMeasuredPlace, IsPair, IsVectorWithin};
 ghost use Rattle.dp_fuse.specs.Places.{arm_east, arm_north, fused_place, fused_position, origin_by, origins_by, place_in, place_of, weighted_east, weighted_north, without_lever};
 ghost use Rattle.dp_fuse.specs.Ranges.{IsUsable, IsVerdictWithin, IsWeighted, IsWeightedPlace};
 
@@ -69,7 +67,8 @@ fn fused_by(a: Option<WeightedPlace>, b: Option<WeightedPlace>, c: Option<Weight
     requires second { IfSome b IsWeightedPlace }
     requires third { IfSome c IsWeightedPlace }
     ensures value { result ≡ fused_position (cons_option a (cons_option b (cons_option c []))) }
-    ensures place { place_in result ≡ fused_place (cons_option a (cons_option b (cons_option c []))) }
+    ensures place { place_in result
+        ≡ fused_place (cons_option a (cons_option b (cons_option c []))) }
     ensures within { IfSome (place_in result) IsMeasuredPlace }
 {
     match (fused_place(a, b, c), (a, b, c)) {

@@ -1,6 +1,6 @@
 ghost use Rattle.std.specs.Prelude.{◌≡◌, ◌≤◌, ◌^◌, ◌+ℤ◌, ◌*ℤ◌, ◌<ℤ◌, ◌≤ℤ◌, IfSome, pos, unsigned_abs, []};
 ghost use Rattle.std.specs.List.{cons_option};
-ghost use Rattle.dp_fixed.specs.Order.{mid3_of};
+ghost use Rattle.dp_fixed.specs.{mid3_of};
 ghost use Rattle.dp_fuse.specs.Fuse.{fuse, mean_of};
 ghost use Rattle.dp_fuse.specs.Ranges.{IsWeighted};
 

@@ -10,7 +10,8 @@ use Rattle.dp_machine.specs.Step.{Step, step_at}
 -- an issue has a force for each thruster
 abbrev pub IssuesHaveAForceForEachThruster : Type 0
 IssuesHaveAForceForEachThruster = (p : Plant) (at : Setpoint) (s : State) (f : Frame) (t : Step)
-    → IsSoundPlant p → step_at p at s f ≡ Some t → length t.issue.forces.items ≡ length p.thrusters.items
+    → IsSoundPlant p → step_at p at s f ≡ Some t
+    → length t.issue.forces.items ≡ length p.thrusters.items
 
 -- an issue is that of the cycle which the state comes to, and after it one more cycle is counted
 abbrev pub IssuesAreOfTheirCycle : Type 0

@@ -9,7 +9,8 @@ use Rattle.dp_reftest.specs.Window.{IsKept}
 use Rattle.dp_machine.specs.declared.state.State.{State}
 use Rattle.dp_machine.specs.Step.{kept_at, limits_at}
 
--- a heading from 0 up to but not including a whole turn, a bias within 2^38 and a rate within 2^53 of zero
+-- a heading from 0 up to but not including a whole turn, a bias within 2^38 and a rate within 2^53
+-- of zero
 pub record IsYawInRange (x : YawState) : Type 0 where
   pub psi_low : pos 0 ≤ℤ x.psi
   pub psi_high : x.psi <ℤ turn

@@ -19,7 +19,8 @@ own_setpoints p = λ n. p.setpoint
 abbrev pub cycle_at : Plant → Setpoints → State → Frame → Option Step
 cycle_at p sets s f = step_at p (sets s.count) s f
 
--- the state after a cycle; one in which an estimate leaves its range counts, and holds the rest of the state
+-- the state after a cycle; one in which an estimate leaves its range counts, and holds the rest of
+-- the state
 unfoldable pub state_after : State → Option Step → State
 state_after s (Some t) = t.next
 state_after s None = record s { count = s.count + 1 }

@@ -86,7 +86,8 @@ pair_in s h = pair_of (heading_in s h)
 unfoldable pub push_by : Plant → Option Gust → List ℤ
 push_by p gust = wind_push p.wind gust
 
--- while a set of groups is lost: from the sine pair, the wind's push, the state and the measured place, if there is one
+-- while a set of groups is lost: from the sine pair, the wind's push, the state and the measured
+-- place, if there is one
 unfoldable pub plane_by : Plant → Setpoint → ℕ → ℤ × ℤ → List ℤ → PlaneState → Option Place
     → PlaneStep
 plane_by p at lost pair push x y = plane_step p.gains (box_of (case_of p lost)) at pair push x y

@@ -1,17 +1,9 @@
 //! The estimates after a cycle.
 ghost use Rattle.std.specs.Prelude.{◌≡◌, ◌≤◌, ◌<◌, ◌^◌, ◌+ℤ◌, IfSome, SomeIff, unwrap_or, unsigned_abs};
 ghost use Rattle.std.specs.Option.{option_map};
-ghost use Rattle.dp_plant.specs.FrameRanges.{IsGustWithin};
-ghost use Rattle.dp_plant.specs.Observer.{plane_next};
-ghost use Rattle.dp_plant.specs.Ranges.{IsMeasuredPlace, IsPair, IsPlaneWithin, IsPush};
-ghost use Rattle.dp_plant.specs.SoundPlant.{IsSoundPlant};
-ghost use Rattle.dp_plant.specs.Step.{push_of};
-ghost use Rattle.dp_plant.specs.Vectors.{entry};
-ghost use Rattle.dp_plant.specs.Yaw.{yaw_next};
-ghost use Rattle.dp_plant.specs.YawRanges.{IsYawPush, IsYawWithin};
-ghost use Rattle.dp_pid.specs.WindPush.{IsWindPush};
-ghost use Rattle.dp_machine.specs.Parts.{AreEstimates, joined_estimates};
-ghost use Rattle.dp_machine.specs.Ranges.{IsWholeDemand, IsYawInRange};
+ghost use Rattle.dp_plant.specs.{IsGustWithin, IsMeasuredPlace, IsPair, IsPlaneWithin, IsPush, IsSoundPlant, IsYawPush, IsYawWithin, entry, plane_next, push_of, yaw_next};
+ghost use Rattle.dp_pid.specs.{IsWindPush};
+ghost use Rattle.dp_machine.specs.{AreEstimates, IsWholeDemand, IsYawInRange, joined_estimates};
 
 use crate::estimates::Estimates;
 use crate::sensed::Sensed;

@@ -1,11 +1,8 @@
 //! One cycle: what is demanded, and the estimates after it.
 ghost use Rattle.std.specs.Prelude.{◌≡◌, ◌<◌, ◌^◌, IfSome, SomeIff, Option, ℕ};
 ghost use Rattle.dp_plant.specs.declared.place.Place.{Place};
-ghost use Rattle.dp_plant.specs.FrameRanges.{IsGustWithin};
-ghost use Rattle.dp_plant.specs.Ranges.{IsMeasuredPlace, IsPair, IsPlaneWithin};
-ghost use Rattle.dp_plant.specs.SoundPlant.{IsSetpointWithin, IsSoundPlant};
-ghost use Rattle.dp_plant.specs.YawRanges.{IsYawWithin};
-ghost use Rattle.dp_pid.specs.WindPush.{IsWindPush};
+ghost use Rattle.dp_plant.specs.{IsGustWithin, IsMeasuredPlace, IsPair, IsPlaneWithin, IsSetpointWithin, IsSoundPlant, IsYawWithin};
+ghost use Rattle.dp_pid.specs.{IsWindPush};
 ghost use Rattle.dp_machine.specs.Parts.{AreEstimates, estimates_by, measured_by, plane_cycle, yaw_cycle};
 ghost use Rattle.dp_machine.specs.Ranges.{IsWholeDemand};
 ghost use Rattle.dp_machine.specs.Step.{plane_by, push_by, whole_demand, yaw_by};

@@ -1,6 +1,6 @@
 //! What a state holds beside its lists.
 ghost use Rattle.std.specs.Prelude.{◌≡◌, ◌<◌, ◌/◌, ◌^◌, pos, ◌≤ℤ◌, ◌<ℤ◌, unsigned_abs};
-ghost use Rattle.dp_plant.specs.Yaw.{turn};
+ghost use Rattle.dp_plant.specs.{turn};
 
 use crate::State;
 use dp_plant::{PlaneState, Plant, YawState};
@@ -18,7 +18,7 @@ pub(crate) struct Estimates {
 
 impl Estimates {
     ghost use Rattle.std.specs.Prelude.{◌≡◌};
-    ghost use Rattle.dp_plant.specs.SoundPlant.{IsSoundPlant};
+    ghost use Rattle.dp_plant.specs.{IsSoundPlant};
     ghost use Rattle.dp_machine.specs.Parts.{AreEstimates, estimates_of};
     ghost use Rattle.dp_machine.specs.Step.{first_state};
 

@@ -1,13 +1,8 @@
 //! The case of a cycle, its box and its forces.
 ghost use Rattle.std.specs.Prelude.{◌≡◌, ◌≤◌, ◌^◌, ◌*ℤ◌, ◌+ℤ◌, All, IfSome, map, pos, length, option_copied, unsigned_abs};
-ghost use Rattle.dp_fixed.specs.Division.{floor_of};
-ghost use Rattle.dp_plant.specs.Ranges.{IsPlaneBox};
-ghost use Rattle.dp_plant.specs.SoundPlant.{IsCaseWithin, IsSoundPlant};
-ghost use Rattle.dp_plant.specs.Vectors.{entry};
-ghost use Rattle.dp_plant.specs.YawRanges.{IsYawBox};
-ghost use Rattle.dp_machine.specs.Case.{AreShares, box_of, case_of, thrust_of};
-ghost use Rattle.dp_machine.specs.Ranges.{IsWholeDemand};
-ghost use Rattle.dp_machine.specs.Step.{forces_by};
+ghost use Rattle.dp_fixed.specs.{floor_of};
+ghost use Rattle.dp_plant.specs.{IsCaseWithin, IsPlaneBox, IsSoundPlant, IsYawBox, entry};
+ghost use Rattle.dp_machine.specs.{AreShares, IsWholeDemand, box_of, case_of, forces_by, thrust_of};
 
 use arrayvec::ArrayVec;
 use dp_fixed::{floor_div, narrow, sum};

@@ -1,5 +1,5 @@
 //! The laws, each the contract of a function that does nothing.
-ghost use Rattle.dp_machine.specs.Laws.{IssuesAreOfTheirCycle, IssuesHaveAForceForEachThruster};
+ghost use Rattle.dp_machine.specs.{IssuesAreOfTheirCycle, IssuesHaveAForceForEachThruster};
 
 /// On a sound plant an issue has as many forces as the plant has thrusters.
 pub fn issues_have_a_force_for_each_thruster()

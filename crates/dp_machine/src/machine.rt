@@ -1,8 +1,6 @@
 //! One computer's machine: its plant and its state.
 ghost use Rattle.std.specs.Prelude.{◌≡◌, ◌∷◌, [], ◌^◌, IfOk, OnErr, Some, None};
-ghost use Rattle.dp_plant.specs.FrameRanges.{IsFrameWithin};
-ghost use Rattle.dp_plant.specs.Ranges.{IsVectorWithin};
-ghost use Rattle.dp_plant.specs.SoundPlant.{IsSetpointWithin, IsSoundPlant};
+ghost use Rattle.dp_plant.specs.{IsFrameWithin, IsSetpointWithin, IsSoundPlant, IsVectorWithin};
 ghost use Rattle.dp_machine.specs.Machine.{first_machine, one_more, with_rest, with_state};
 ghost use Rattle.dp_machine.specs.Ranges.{IsStateWithin};
 ghost use Rattle.dp_machine.specs.Step.{limits_at, step_at, step_of};

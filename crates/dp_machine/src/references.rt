@@ -1,11 +1,9 @@
 //! The tests of the three position references.
 ghost use Rattle.std.specs.Prelude.{◌≡◌, ◌≤◌, ◌<◌, ◌^◌, ◌+◌, ◌-◌, ◌∷◌, [], All, IfOk, length};
 ghost use Rattle.std.specs.List.{AllByRecursion};
-ghost use Rattle.dp_plant.specs.FrameRanges.{IsPlaceSlotWithin};
-ghost use Rattle.dp_plant.specs.SoundPlant.{AreRefLimits};
-ghost use Rattle.dp_reftest.specs.Tested.{tested_by, untested};
-ghost use Rattle.dp_reftest.specs.Window.{IsKept};
-ghost use Rattle.dp_fuse.specs.Ranges.{IsVerdictWithin};
+ghost use Rattle.dp_plant.specs.{AreRefLimits, IsPlaceSlotWithin};
+ghost use Rattle.dp_reftest.specs.{IsKept, tested_by, untested};
+ghost use Rattle.dp_fuse.specs.{IsVerdictWithin};
 ghost use Rattle.dp_machine.specs.Parts.{AreTaken, windows_by, verdicts_by};
 ghost use Rattle.dp_machine.specs.Step.{kept_at, limits_in};
 
@@ -68,7 +66,8 @@ impl References {
     pub(crate) fn kept(&self) -> [Kept; 3]
         ensures value { result ≡ windows_by self.now }
         ensures first { let t = self.now.first in IsKept t.limits.window t.next (kept_at result 0) }
-        ensures second { let t = self.now.second in IsKept t.limits.window t.next (kept_at result 1) }
+        ensures second { let t = self.now.second in IsKept t.limits.window t.next
+            (kept_at result 1) }
         ensures third { let t = self.now.third in IsKept t.limits.window t.next (kept_at result 2) }
     {
         [self.first.kept(), self.second.kept(), self.third.kept()]

@@ -1,9 +1,8 @@
 //! What a cycle hears of heading and wind.
 ghost use Rattle.std.specs.Prelude.{◌≡◌, ◌<◌, IfSome, filter_map};
 ghost use Rattle.std.specs.List.{AllByRecursion};
-ghost use Rattle.dp_plant.specs.FrameRanges.{IsFrameWithin, IsGustWithin, IsHeadingSlotWithin, IsWindSlotWithin};
-ghost use Rattle.dp_fuse.specs.Angles.{fused_angle};
-ghost use Rattle.dp_fuse.specs.Gusts.{fused_gust};
+ghost use Rattle.dp_plant.specs.{IsFrameWithin, IsGustWithin, IsHeadingSlotWithin, IsWindSlotWithin};
+ghost use Rattle.dp_fuse.specs.{fused_angle, fused_gust};
 ghost use Rattle.dp_machine.specs.Step.{sensed_by};
 
 use dp_plant::{Frame, Gust, Slot};

@@ -1,9 +1,6 @@
 //! Cycles of the built-in plant. The expected values are worked by hand from the definitions, or come from a separate program.
 ghost use Rattle.std.specs.Prelude.{◌≡◌, ◌<◌, ◌^◌, IfSome};
-ghost use Rattle.dp_plant.specs.BuiltInPlant.{built_in_plant};
-ghost use Rattle.dp_plant.specs.FrameRanges.{IsFrameWithin, IsGustWithin};
-ghost use Rattle.dp_plant.specs.Ranges.{IsVectorWithin};
-ghost use Rattle.dp_plant.specs.SoundPlant.{IsSoundPlant};
+ghost use Rattle.dp_plant.specs.{IsFrameWithin, IsGustWithin, IsSoundPlant, IsVectorWithin, built_in_plant};
 
 use crate::Machine;
 use dp_plant::{Frame, Gust, Place, Slot, p0};

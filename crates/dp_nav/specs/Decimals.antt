@@ -19,7 +19,9 @@ decimals text = after_first is_point text
 -- one digit or more before the point, any digits after it, none too; at most 20 digits
 abbrev pub is_sound : List ℕ → List ℕ → Bool
 is_sound whole decimals =
-    nat_lt 0 (length whole) && (list_all is_ascii_digit whole && (list_all is_ascii_digit decimals && nat_le (length whole + length decimals) 20))
+    nat_lt 0 (length whole)
+    && (list_all is_ascii_digit whole
+    && (list_all is_ascii_digit decimals && nat_le (length whole + length decimals) 20))
 
 -- digits, and perhaps a point and digits after them
 unfoldable pub is_decimal : List ℕ → Bool
@@ -29,10 +31,14 @@ is_decimal text = is_sound (whole text) (decimals text)
 abbrev pub number : List ℕ → ℕ
 number digits = unwrap_or (decimal_of 18 digits) 0
 
--- the first k decimals as a whole number of 10^-k: those past them are cut, those that are missing count as zeros
+-- the first k decimals as a whole number of 10^-k: those past them are cut, those that are missing
+-- count as zeros
 unfoldable pub kept : ℕ → List ℕ → ℕ
 kept k decimals = number (take k decimals) * 10 ^ (k - length (take k decimals))
 
 -- a decimal as a whole number of 10^-k: the decimals past the first k are cut
 unfoldable pub scaled_of : ℕ → List ℕ → Option ℕ
-scaled_of k text = if is_decimal text then option_map (λ n. n * 10 ^ k + kept k (decimals text)) (decimal_of 20 (whole text)) else None
+scaled_of k text =
+    if is_decimal text
+    then option_map (λ n. n * 10 ^ k + kept k (decimals text)) (decimal_of 20 (whole text))
+    else None

@@ -48,7 +48,9 @@ minutes axis text = number (drop (degree_digits axis) (whole text))
 
 -- degrees and minutes as a whole number of 10^-7 minute
 abbrev pub angle : Axis → List ℕ → ℕ
-angle axis text = (number (take (degree_digits axis) (whole text)) * 60 + minutes axis text) * 10 ^ 7 + kept 7 (decimals text)
+angle axis text =
+    (number (take (degree_digits axis) (whole text)) * 60 + minutes axis text) * 10 ^ 7 + kept 7
+    (decimals text)
 
 -- `ddmm.mm..` or `dddmm.mm..` with minutes below 60, at most 90 or 180 degrees
 unfoldable pub angle_of : Axis → List ℕ → Option ℕ
@@ -60,7 +62,8 @@ angle_of axis text =
 -- south and west are negative
 abbrev pub is_negative_of : Axis → List ℕ → Option Bool
 is_negative_of axis (letter ∷ []) =
-    if letter == positive_letter axis then Some false else if letter == negative_letter axis then Some true else None
+    if letter == positive_letter axis then Some false
+    else if letter == negative_letter axis then Some true else None
 is_negative_of axis text = None
 
 abbrev pub signed : Bool → ℕ → ℤ

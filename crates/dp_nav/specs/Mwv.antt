@@ -10,12 +10,14 @@ use Rattle.dp_nav.specs.declared.reading.Skip.TheVariants.{BadField}
 
 -- whether a status is `A`, valid, or `V`, not valid
 abbrev pub is_valid_of : List ℕ → Option Bool
-is_valid_of (letter ∷ []) = if letter == 65 then Some true else if letter == 86 then Some false else None
+is_valid_of (letter ∷ []) =
+    if letter == 65 then Some true else if letter == 86 then Some false else None
 is_valid_of text = None
 
 -- whether a reference is `R`, relative to the vessel, or `T`, true
 abbrev pub is_relative_of : List ℕ → Option Bool
-is_relative_of (letter ∷ []) = if letter == 82 then Some true else if letter == 84 then Some false else None
+is_relative_of (letter ∷ []) =
+    if letter == 82 then Some true else if letter == 84 then Some false else None
 is_relative_of text = None
 
 abbrev pub status_of : List (List ℕ) → Result (Unit {0}) Skip
@@ -30,7 +32,8 @@ reference_of fields = do
   is_relative ← or_bad 2 (is_relative_of text)
   valid_of is_relative
 
--- thousandths of metres per second (`M`), knots (`N`) or kilometres per hour (`K`), in mm/s, rounded down
+-- thousandths of metres per second (`M`), knots (`N`) or kilometres per hour (`K`), in mm/s,
+-- rounded down
 abbrev pub per_second_of : ℕ → List ℕ → Option ℕ
 per_second_of x (unit ∷ []) =
     if unit == 77 then Some x

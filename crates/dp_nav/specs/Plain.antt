@@ -56,6 +56,8 @@ group_of text =
 
 -- `L NORTH EAST` on a position wire, `G 1` or `G 0` on that of a group
 unfoldable pub plain_of : WireKind → List ℕ → Result Reading Skip
-plain_of kind.Position (letter ∷ rest) = if letter == 76 then local_of (parts_behind rest) else Err OtherFormatter
-plain_of kind.Group (letter ∷ rest) = if letter == 71 then group_of (letter ∷ rest) else Err OtherFormatter
+plain_of kind.Position (letter ∷ rest) =
+    if letter == 76 then local_of (parts_behind rest) else Err OtherFormatter
+plain_of kind.Group (letter ∷ rest) =
+    if letter == 71 then group_of (letter ∷ rest) else Err OtherFormatter
 plain_of _ _ = Err OtherFormatter

@@ -13,10 +13,12 @@ use Rattle.dp_nav.specs.declared.reading.WireKind.TheVariants.{Position, Gyro, W
 
 -- the reading of a sentence's formatter and data fields
 unfoldable pub sensed_of : WireKind → List ℕ → List (List ℕ) → Result Reading Skip
-sensed_of Position formatter fields = if bytes_eq formatter (codes "GGA") then fix_of fields else Err OtherFormatter
+sensed_of Position formatter fields =
+    if bytes_eq formatter (codes "GGA") then fix_of fields else Err OtherFormatter
 sensed_of Gyro formatter fields =
     if bytes_eq formatter (codes "HDT") then hdt_of fields
     else if bytes_eq formatter (codes "THS") then ths_of fields
     else Err OtherFormatter
-sensed_of Wind formatter fields = if bytes_eq formatter (codes "MWV") then mwv_of fields else Err OtherFormatter
+sensed_of Wind formatter fields =
+    if bytes_eq formatter (codes "MWV") then mwv_of fields else Err OtherFormatter
 sensed_of Group formatter fields = Err OtherFormatter

@@ -2,7 +2,7 @@
 ghost use Rattle.std.specs.Prelude.{◌≡◌, ◌<◌, ◌≤◌, ◌^◌, length, take, IfSome, MatchOption, false, true};
 ghost use Rattle.std.specs.List.{list_all, position_or_len};
 ghost use Rattle.std.specs.Char.{is_ascii_digit};
-ghost use Rattle.dp_text.specs.Numbers.{decimal_of, digits_after};
+ghost use Rattle.dp_text.specs.{decimal_of, digits_after};
 ghost use Rattle.dp_nav.specs.Decimals as Decimals;
 ghost use Rattle.dp_nav.specs.Decimals.{is_decimal, is_point};
 

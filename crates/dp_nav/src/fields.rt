@@ -1,6 +1,6 @@
 //! The fields of a line.
 ghost use Rattle.std.specs.Prelude.{◌≡◌, ◌≤◌, MatchResult, Ok, Err};
-ghost use Rattle.dp_text.specs.Parts.{texts_of};
+ghost use Rattle.dp_text.specs.{texts_of};
 ghost use Rattle.dp_nav.specs.Fields as Fields;
 
 use crate::Skip;

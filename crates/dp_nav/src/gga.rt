@@ -24,7 +24,7 @@
 //! the minute are kept and those past them cut, before the angle is compared with 90 or 180 degrees; a point with no decimals after it is
 //! fine. The reading of the example is the latitude 28870380000 and the longitude 6910000000, in 10^-7 minute.
 ghost use Rattle.std.specs.Prelude.{◌≡◌, ◌≤◌, ◌*◌, IfOk, IfSome, unsigned_abs};
-ghost use Rattle.dp_text.specs.Parts.{texts_of};
+ghost use Rattle.dp_text.specs.{texts_of};
 ghost use Rattle.dp_nav.specs.Gga as Gga;
 ghost use Rattle.dp_nav.specs.ReadingRanges.{IsReadingWithin};
 

@@ -13,9 +13,8 @@
 //! is compared with 360 degrees; 360.00 is 0, and more is refused. The reading of the example is the heading 9000, in hundredths of a
 //! degree.
 ghost use Rattle.std.specs.Prelude.{◌≡◌, IfOk};
-ghost use Rattle.dp_text.specs.Parts.{texts_of};
-ghost use Rattle.dp_nav.specs.Hdt.{hdt_of, true_of};
-ghost use Rattle.dp_nav.specs.ReadingRanges.{IsReadingWithin};
+ghost use Rattle.dp_text.specs.{texts_of};
+ghost use Rattle.dp_nav.specs.{IsReadingWithin, hdt_of, true_of};
 
 use crate::fields::field;
 use crate::turns::turn;

@@ -18,9 +18,9 @@
 //! speed has at most 20 digits, three decimals are kept and those past them cut, and in mm/s it is rounded down and below 100000, which is
 //! judged after the unit, as field 3. The reading of the example is the angle 4500, in hundredths of a degree, and the speed 5144.
 ghost use Rattle.std.specs.Prelude.{◌≡◌, ◌<◌, ◌^◌, IfOk, IfSome};
-ghost use Rattle.dp_text.specs.Parts.{texts_of};
+ghost use Rattle.dp_text.specs.{texts_of};
 ghost use Rattle.dp_nav.specs.Mwv as Mwv;
-ghost use Rattle.dp_nav.specs.ReadingRanges.{IsReadingWithin};
+ghost use Rattle.dp_nav.specs.{IsReadingWithin};
 
 use crate::decimals::scaled;
 use crate::fields::field;
@@ -49,7 +49,11 @@ fn check_status(fields: &[&[u8]]) -> Result<(), Skip>
     ensures { result ≡ Mwv.status_of (texts_of fields.now) }
 {
     let is_valid = is_valid(field(fields, 5)?).ok_or(Skip::BadField { index: 5 })?;
-    if is_valid { Ok(()) } else { Err(Skip::NotValid) }
+    if is_valid {
+        Ok(())
+    } else {
+        Err(Skip::NotValid)
+    }
 }
 
 fn is_valid(status: &[u8]) -> Option<bool>
@@ -67,7 +71,11 @@ fn check_reference(fields: &[&[u8]]) -> Result<(), Skip>
     ensures { result ≡ Mwv.reference_of (texts_of fields.now) }
 {
     let is_relative = is_relative(field(fields, 2)?).ok_or(Skip::BadField { index: 2 })?;
-    if is_relative { Ok(()) } else { Err(Skip::NotValid) }
+    if is_relative {
+        Ok(())
+    } else {
+        Err(Skip::NotValid)
+    }
 }
 
 fn is_relative(reference: &[u8]) -> Option<bool>

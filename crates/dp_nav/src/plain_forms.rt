@@ -1,8 +1,7 @@
 //! Plain forms: `L NORTH EAST`, a place in the local frame, and `G 1` or `G 0`, the state of a thruster group.
 ghost use Rattle.std.specs.Prelude.{◌≡◌, ◌∷◌, ◌≤◌, ◌<◌, length, IfOk, IfSome, IsTrue, unsigned_abs};
-ghost use Rattle.dp_text.specs.Parts.{parts_of};
-ghost use Rattle.dp_nav.specs.Plain.{is_plain, plain_of, parts_in, parts_behind, nanometres_of, local_of, group_of};
-ghost use Rattle.dp_nav.specs.ReadingRanges.{IsReadingWithin};
+ghost use Rattle.dp_text.specs.{parts_of};
+ghost use Rattle.dp_nav.specs.{IsReadingWithin, group_of, is_plain, local_of, nanometres_of, parts_behind, parts_in, plain_of};
 
 use crate::{Reading, Skip, WireKind};
 use dp_text::{cut, number};

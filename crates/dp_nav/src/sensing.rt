@@ -1,7 +1,6 @@
 //! What a sentence says on a wire.
 ghost use Rattle.std.specs.Prelude.{◌≡◌, IfOk, map};
-ghost use Rattle.dp_nav.specs.ReadingRanges.{IsReadingWithin};
-ghost use Rattle.dp_nav.specs.Sensed.{sensed_of};
+ghost use Rattle.dp_nav.specs.{IsReadingWithin, sensed_of};
 
 use crate::{Reading, Skip, WireKind, gga, hdt, mwv, ths};
 use dp_sentence::Sentence;
@@ -13,7 +12,8 @@ use dp_sentence::Sentence;
 /// The ranges of what it gives are those of [`Reading`].
 #[tactic(auto, unfolding(crate::specs::Sensed::sensed_of))]
 pub fn sensed(kind: WireKind, s: &Sentence) -> Result<Reading, Skip>
-    ensures value { result ≡ sensed_of kind s.now.formatter.now (map (λ field. field.now) s.now.fields.items) }
+    ensures value { result
+        ≡ sensed_of kind s.now.formatter.now (map (λ field. field.now) s.now.fields.items) }
     ensures within { IfOk result IsReadingWithin }
 {
     match kind {

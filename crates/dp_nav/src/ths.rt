@@ -15,9 +15,8 @@
 //! This project's own are: the mode `A` alone counts; and what is said of the heading of an HDT sentence. The reading of the example is
 //! the heading 9000, in hundredths of a degree.
 ghost use Rattle.std.specs.Prelude.{◌≡◌, IfOk};
-ghost use Rattle.dp_text.specs.Parts.{texts_of};
-ghost use Rattle.dp_nav.specs.Ths.{is_autonomous_of, mode_of, ths_of};
-ghost use Rattle.dp_nav.specs.ReadingRanges.{IsReadingWithin};
+ghost use Rattle.dp_text.specs.{texts_of};
+ghost use Rattle.dp_nav.specs.{IsReadingWithin, is_autonomous_of, mode_of, ths_of};
 
 use crate::fields::field;
 use crate::turns::turn;
@@ -39,7 +38,11 @@ fn check_mode(fields: &[&[u8]]) -> Result<(), Skip>
     ensures { result ≡ mode_of (texts_of fields.now) }
 {
     let is_autonomous = is_autonomous(field(fields, 2)?).ok_or(Skip::BadField { index: 2 })?;
-    if is_autonomous { Ok(()) } else { Err(Skip::NotValid) }
+    if is_autonomous {
+        Ok(())
+    } else {
+        Err(Skip::NotValid)
+    }
 }
 
 fn is_autonomous(mode: &[u8]) -> Option<bool>

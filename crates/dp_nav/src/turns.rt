@@ -1,7 +1,7 @@
 //! Headings and the wind's angle, in hundredths of a degree.
 ghost use Rattle.std.specs.Prelude.{◌≡◌, ◌<◌, ◌≤◌, IfOk, IfSome};
-ghost use Rattle.dp_text.specs.Parts.{texts_of};
-ghost use Rattle.dp_nav.specs.Turns.{turn_in, turn_of};
+ghost use Rattle.dp_text.specs.{texts_of};
+ghost use Rattle.dp_nav.specs.{turn_in, turn_of};
 
 use crate::Skip;
 use crate::decimals::scaled;

@@ -9,17 +9,21 @@ use Rattle.dp_plant.specs.declared.plane.PlaneState.{PlaneState}
 use Rattle.dp_plant.specs.Observer.{north_of, east_of, plane_of, plane_next}
 use Rattle.dp_plant.specs.Vectors.{along_north, along_east, entry, zero_place}
 
--- one component a cycle later, by its measured place y and what pushes in its direction, times the scale
+-- one component a cycle later, by its measured place y and what pushes in its direction, times the
+-- scale
 abbrev pub steady_component_next : Gains → Component → ℤ → ℤ → Component
 steady_component_next g x y push = let off = y -ℤ x.eta in record {
   eta = floor_of ((full_scale *ℤ (x.eta +ℤ x.vel)) +ℤ (g.k2 *ℤ off)) full_scale;
   beta = floor_of (((full_scale *ℤ x.beta) -ℤ (g.leak *ℤ x.beta)) +ℤ (g.k3 *ℤ off)) full_scale;
-  vel = floor_of (((((full_scale *ℤ x.vel) -ℤ (g.damp *ℤ x.vel)) +ℤ (full_scale *ℤ x.beta)) +ℤ push) +ℤ (g.k4 *ℤ off)) full_scale;
+  vel = floor_of
+      (((((full_scale *ℤ x.vel) -ℤ (g.damp *ℤ x.vel)) +ℤ (full_scale *ℤ x.beta)) +ℤ push)
+      +ℤ (g.k4 *ℤ off)) full_scale;
   wave_p = pos 0;
   wave_q = pos 0;
 }
 
--- a cycle later, by a measured place and what pushes in surge and sway; a cycle without a measured place holds the state
+-- a cycle later, by a measured place and what pushes in surge and sway; a cycle without a measured
+-- place holds the state
 abbrev pub steady_next : Gains → PlaneState → Option Place → List ℤ → ℤ × ℤ → PlaneState
 steady_next g x None push pair = x
 steady_next g x (Some y) push pair = plane_of
@@ -40,11 +44,13 @@ pub record HasNoWaves (x : PlaneState) : Type 0 where
   pub wave_p : x.wave_p ≡ zero_place
   pub wave_q : x.wave_q ≡ zero_place
 
-pub record IsSteady (g : Gains) (x : PlaneState) (y : Option Place) (push : List ℤ) (pair : ℤ × ℤ) : Type 0 where
+pub record IsSteady (g : Gains) (x : PlaneState) (y : Option Place) (push : List ℤ)
+    (pair : ℤ × ℤ) : Type 0 where
   pub next : plane_next g x y push pair ≡ steady_next g x y push pair
   pub no_waves : HasNoWaves (plane_next g x y push pair)
 
 -- without a wave filter a cycle is the one without waves, and no waves come up
 abbrev pub WavelessCycleIsSteady : Type 0
-WavelessCycleIsSteady = (g : Gains) (x : PlaneState) (y : Option Place) (push : List ℤ) (pair : ℤ × ℤ)
+WavelessCycleIsSteady =
+    (g : Gains) (x : PlaneState) (y : Option Place) (push : List ℤ) (pair : ℤ × ℤ)
     → HasNoWaveFilter g → HasNoWaves x → IsSteady g x y push pair

@@ -1,10 +1,8 @@
 //! One component of the plane, a cycle later.
 ghost use Rattle.std.specs.Prelude.{◌≡◌, ◌≤◌, ◌^◌, ◌+ℤ◌, ◌-ℤ◌, ◌*ℤ◌, unsigned_abs, SomeIff};
-ghost use Rattle.dp_fixed.specs.Division.{floor_of};
-ghost use Rattle.dp_fixed.specs.Scale.{full_scale};
+ghost use Rattle.dp_fixed.specs.{floor_of, full_scale};
 ghost use Rattle.dp_plant.specs.declared.plane.Component.{Component};
-ghost use Rattle.dp_plant.specs.Observer.{component_next};
-ghost use Rattle.dp_plant.specs.Ranges.{IsComponentWithin, IsObserverGains};
+ghost use Rattle.dp_plant.specs.{IsComponentWithin, IsObserverGains, component_next};
 
 use crate::limit::coordinate;
 use crate::motion::{bias_next, place_next, velocity_next};
@@ -57,7 +55,8 @@ pub(crate) fn component(gains: &Gains, x: Component, y: i64, push: i128) -> Opti
     requires state { IsComponentWithin x }
     requires place { unsigned_abs y ≤ 2 ^ 44 }
     requires push { unsigned_abs push ≤ 2 ^ 92 }
-    ensures { let later = component_next gains.now x y push in SomeIff result (IsComponentWithin later) later }
+    ensures { let later = component_next gains.now x y push in SomeIff result
+        (IsComponentWithin later) later }
 {
     let off = offset(x, y);
     let eta = place_next(gains.k2, x.eta, x.vel, off);

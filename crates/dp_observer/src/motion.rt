@@ -1,8 +1,7 @@
 //! How a place or heading, a bias and a velocity move in one cycle, along one coordinate.
 ghost use Rattle.std.specs.Prelude.{◌≡◌, ◌≤◌, ◌^◌, ◌*ℤ◌, ◌+ℤ◌, ◌-ℤ◌, unsigned_abs};
-ghost use Rattle.dp_fixed.specs.Division.{floor_of};
-ghost use Rattle.dp_fixed.specs.Scale.{full_scale};
-ghost use Rattle.dp_plant.specs.Ranges.{IsShare};
+ghost use Rattle.dp_fixed.specs.{floor_of, full_scale};
+ghost use Rattle.dp_plant.specs.{IsShare};
 
 use dp_fixed::{Q, difference, floor_div, product, sum};
 

@@ -1,9 +1,7 @@
 //! One cycle of the plane's observer.
 ghost use Rattle.std.specs.Prelude.{◌≡◌, ◌≤◌, ◌^◌, ◌↔◌, unsigned_abs, IsOk, OnOk, OnErr, IfSome, Some, SomeIff};
-ghost use Rattle.dp_plant.specs.Vectors.{along_east, along_north};
-ghost use Rattle.dp_plant.specs.Observer.{plane_next};
-ghost use Rattle.dp_plant.specs.Ranges.{IsMeasuredPlace, IsObserverGains, IsPair, IsPlaneWithin, IsPush};
-ghost use Rattle.dp_observer.specs.Joined.{joined};
+ghost use Rattle.dp_plant.specs.{IsMeasuredPlace, IsObserverGains, IsPair, IsPlaneWithin, IsPush, along_east, along_north, plane_next};
+ghost use Rattle.dp_observer.specs.{joined};
 
 use crate::Diverged;
 use crate::component::component;
@@ -60,7 +58,8 @@ fn next(
     requires place { IsMeasuredPlace place }
     requires push { IsPush push }
     requires pair { IsPair pair }
-    ensures { let later = plane_next gains.now x.now (Some place) push pair in SomeIff result (IsPlaneWithin later) later }
+    ensures { let later = plane_next gains.now x.now (Some place) push pair in SomeIff result
+        (IsPlaneWithin later) later }
 {
     let north = component(gains, x.north(), place.north, north_push(pair, push));
     let east = component(gains, x.east(), place.east, east_push(pair, push));

@@ -1,11 +1,9 @@
 //! One cycle of the observer of yaw.
 ghost use Rattle.std.specs.Prelude.{◌≡◌, ◌≤◌, ◌<◌, ◌^◌, ◌*◌, ◌↔◌, pos, ◌-ℤ◌, ◌*ℤ◌, unsigned_abs, IsOk, OnOk, OnErr, IfSome, Some, SomeIff};
 ghost use Rattle.std.specs.Int.{int_rem_euclid};
-ghost use Rattle.dp_fixed.specs.Scale.{full_scale};
-ghost use Rattle.dp_fixed.specs.Turns.{wrap_of};
+ghost use Rattle.dp_fixed.specs.{full_scale, wrap_of};
 ghost use Rattle.dp_plant.specs.declared.yaw.YawState.{YawState};
-ghost use Rattle.dp_plant.specs.Yaw.{turn, yaw_next};
-ghost use Rattle.dp_plant.specs.YawRanges.{IsMeasuredHeading, IsYawGains, IsYawPush, IsYawWithin};
+ghost use Rattle.dp_plant.specs.{IsMeasuredHeading, IsYawGains, IsYawPush, IsYawWithin, turn, yaw_next};
 
 use crate::Diverged;
 use crate::limit::coordinate;

@@ -13,18 +13,23 @@ use Rattle.dp_plant.specs.Yaw.{asked_yaw, yaw_demand}
 use Rattle.dp_pid.specs.Axis.{IsInRange, is_limited, scaled_twice}
 
 -- the demands on surge, sway and yaw
-abbrev pub demands_of : Gains → YawGains → Box3 → PlaneState → YawState → Setpoint → ℤ × ℤ → List ℤ → List ℤ
+abbrev pub demands_of : Gains → YawGains → Box3 → PlaneState → YawState → Setpoint → ℤ × ℤ → List ℤ
+    → List ℤ
 demands_of g y box plane yaw setpoint pair wind =
     entry (plane_demand g box setpoint pair wind plane) 0
     ∷ entry (plane_demand g box setpoint pair wind plane) 1
     ∷ yaw_demand y box setpoint wind yaw ∷ []
 
 -- whether the clamp to the box changes what is asked of surge, sway and yaw
-abbrev pub limited_of : Gains → YawGains → Box3 → PlaneState → YawState → Setpoint → ℤ × ℤ → List ℤ → List Bool
+abbrev pub limited_of : Gains → YawGains → Box3 → PlaneState → YawState → Setpoint → ℤ × ℤ → List ℤ
+    → List Bool
 limited_of g y box plane yaw setpoint pair wind =
-    is_limited (asked_surge g setpoint pair wind plane) (scaled_twice (entry box.lo 0)) (scaled_twice (entry box.hi 0))
-    ∷ is_limited (asked_sway g setpoint pair wind plane) (scaled_twice (entry box.lo 1)) (scaled_twice (entry box.hi 1))
-    ∷ is_limited (asked_yaw y setpoint wind yaw) (full_scale *ℤ entry box.lo 2) (full_scale *ℤ entry box.hi 2) ∷ []
+    is_limited (asked_surge g setpoint pair wind plane) (scaled_twice (entry box.lo 0))
+    (scaled_twice (entry box.hi 0))
+    ∷ is_limited (asked_sway g setpoint pair wind plane) (scaled_twice (entry box.lo 1))
+    (scaled_twice (entry box.hi 1))
+    ∷ is_limited (asked_yaw y setpoint wind yaw) (full_scale *ℤ entry box.lo 2)
+    (full_scale *ℤ entry box.hi 2) ∷ []
 
 -- each demand is in its range of the box
 pub record IsInBox (box : Box3) (a : List ℤ) : Type 0 where

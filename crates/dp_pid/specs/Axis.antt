@@ -1,4 +1,5 @@
--- One axis: what is asked of it, and what it answers. Surge, sway and yaw differ in their gains, their range and their unit: what is asked
+-- One axis: what is asked of it, and what it answers. Surge, sway and yaw differ in their gains,
+-- their range and their unit: what is asked
 -- is over the square of the scale for surge and sway, and over the scale for yaw.
 use Rattle.std.specs.Prelude.{◌≡◌, ◌≤◌, ◌^◌, Bool, not, ℤ, pos, neg_ℤ, ◌-ℤ◌, ◌*ℤ◌, ◌≤ℤ◌, unsigned_abs}
 use Rattle.std.specs.Ordering.{int_eq}
@@ -11,19 +12,23 @@ use Rattle.dp_pid.specs.declared.axis.Answer.{Answer}
 use Rattle.dp_pid.specs.declared.axis.Along.{Along}
 use Rattle.dp_pid.specs.declared.axis.Axis.{Axis}
 
--- a spring on the error and a damper on the velocity, against the bias within its limit and against the wind, which are given over the
+-- a spring on the error and a damper on the velocity, against the bias within its limit and against
+-- the wind, which are given over the
 -- axis's unit
 abbrev pub asked_along : Axis → ℤ → ℤ → Along → ℤ
 asked_along axis limit wind along =
-    ((neg_ℤ (axis.kp *ℤ along.error) -ℤ (axis.kd *ℤ along.velocity)) -ℤ (full_scale *ℤ clamp_of along.bias (neg_ℤ limit) limit)) -ℤ wind
+    ((neg_ℤ (axis.kp *ℤ along.error) -ℤ (axis.kd *ℤ along.velocity))
+    -ℤ (full_scale *ℤ clamp_of along.bias (neg_ℤ limit) limit)) -ℤ wind
 
 -- what is asked of surge or sway, by a push of the wind
 abbrev pub asked_of_plane : Axis → Along → ℤ → ℤ
-asked_of_plane axis along wind = asked_of axis.kp axis.kd axis.bias along.error along.velocity along.bias wind
+asked_of_plane axis along wind =
+    asked_of axis.kp axis.kd axis.bias along.error along.velocity along.bias wind
 
 -- what is asked of yaw
 abbrev pub asked_of_yaw : Axis → Along → ℤ → ℤ
-asked_of_yaw axis along wind = asked_turn_of axis.kp axis.kd axis.bias along.error along.velocity along.bias wind
+asked_of_yaw axis along wind =
+    asked_turn_of axis.kp axis.kd axis.bias along.error along.velocity along.bias wind
 
 -- whether the clamp to a range changes what is asked; both are over the axis's unit
 abbrev pub is_limited : ℤ → ℤ → ℤ → Bool

@@ -30,11 +30,21 @@ sway_of setpoint pair x = record {
 
 -- in yaw, the error the nearer way round
 abbrev pub yaw_of : Setpoint → YawState → Along
-yaw_of setpoint x = record { error = wrap_of (x.psi -ℤ setpoint.psi) turn; velocity = x.rate; bias = x.beta }
+yaw_of setpoint x =
+    record { error = wrap_of (x.psi -ℤ setpoint.psi) turn; velocity = x.rate; bias = x.beta }
 
 -- surge is axis 0 and sway axis 1 of the plane
 abbrev pub plane_axis : Gains → Box3 → ℕ → Axis
-plane_axis g box j = record { kp = entry g.kp j; kd = entry g.kd j; bias = entry g.bias j; lo = entry box.lo j; hi = entry box.hi j }
+plane_axis g box j =
+    record {
+      kp = entry g.kp j;
+      kd = entry g.kd j;
+      bias = entry g.bias j;
+      lo = entry box.lo j;
+      hi =
+          entry box.hi j;
+    }
 
 abbrev pub yaw_axis : YawGains → Box3 → Axis
-yaw_axis g box = record { kp = g.kp; kd = g.kd; bias = g.bias; lo = entry box.lo 2; hi = entry box.hi 2 }
+yaw_axis g box =
+    record { kp = g.kp; kd = g.kd; bias = g.bias; lo = entry box.lo 2; hi = entry box.hi 2 }

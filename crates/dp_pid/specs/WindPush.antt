@@ -11,10 +11,14 @@ three_zeros = pos 0 ∷ pos 0 ∷ pos 0 ∷ []
 
 -- by a number of the table, over 2^20, and the speed in mm/s
 abbrev pub pushed_by : ℤ → ℤ → ℤ
-pushed_by share speed = clamp_of (floor_of (share *ℤ (speed *ℤ speed)) (pos (2 ^ 20))) (neg_ℤ (pos (2 ^ 31))) (pos (2 ^ 31))
+pushed_by share speed =
+    clamp_of (floor_of (share *ℤ (speed *ℤ speed)) (pos (2 ^ 20))) (neg_ℤ (pos (2 ^ 31)))
+    (pos (2 ^ 31))
 
 abbrev pub row_push : List ℤ → ℤ → List ℤ
-row_push row speed = pushed_by (entry row 0) speed ∷ pushed_by (entry row 1) speed ∷ pushed_by (entry row 2) speed ∷ []
+row_push row speed =
+    pushed_by (entry row 0) speed ∷ pushed_by (entry row 1) speed ∷ pushed_by (entry row 2) speed
+    ∷ []
 
 -- a row of the table for each 30 degrees; no push where no wind is known
 abbrev pub wind_push : WindTable → Option Gust → List ℤ

@@ -1,9 +1,7 @@
 //! One axis: what is asked of it, and its answer.
 ghost use Rattle.std.specs.Prelude.{◌≡◌, ◌≤◌, ◌+◌, ◌^◌, pos, neg_ℤ, ◌-ℤ◌, ◌*ℤ◌, ◌≤ℤ◌, ◌<ℤ◌, unsigned_abs};
-ghost use Rattle.dp_fixed.specs.Scale.{full_scale, full_scale_squared};
-ghost use Rattle.dp_fixed.specs.Division.{floor_of};
-ghost use Rattle.dp_fixed.specs.Order.{clamp_of};
-ghost use Rattle.dp_plant.specs.Ranges.{IsShare};
+ghost use Rattle.dp_fixed.specs.{clamp_of, floor_of, full_scale, full_scale_squared};
+ghost use Rattle.dp_plant.specs.{IsShare};
 ghost use Rattle.dp_pid.specs.Axis.{IsInRange, IsAlongWithin, IsAxis, IsPlaneAnswer, IsYawAnswer, asked_along, asked_of_plane, asked_of_yaw, is_limited, scaled_twice};
 
 use dp_fixed::{Q, clamp, difference, floor_div, narrow, negated, product};

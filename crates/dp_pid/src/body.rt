@@ -1,8 +1,6 @@
 //! A state's error, velocity and bias along the vessel's axes.
 ghost use Rattle.std.specs.Prelude.{◌≡◌, ◌≤◌, ◌^◌, unsigned_abs};
-ghost use Rattle.dp_plant.specs.Vectors.{along_surge, along_sway, offset};
-ghost use Rattle.dp_plant.specs.Ranges.{IsPair, IsPlaneSetpoint, IsPlaneWithin, IsVectorWithin};
-ghost use Rattle.dp_plant.specs.YawRanges.{IsYawSetpoint, IsYawWithin};
+ghost use Rattle.dp_plant.specs.{IsPair, IsPlaneSetpoint, IsPlaneWithin, IsVectorWithin, IsYawSetpoint, IsYawWithin, along_surge, along_sway, offset};
 ghost use Rattle.dp_pid.specs.Axis.{IsAlongWithin};
 ghost use Rattle.dp_pid.specs.Body.{surge_of, sway_of, yaw_of};
 

@@ -1,7 +1,6 @@
 //! What the control law demands of the three axes.
 ghost use Rattle.std.specs.Prelude.{◌≡◌, ◌≤◌, ◌<◌, ◌^◌, [], ◌∷◌, unsigned_abs};
-ghost use Rattle.dp_plant.specs.Ranges.{IsLawGains, IsPair, IsPlaneBox, IsPlaneSetpoint, IsPlaneWithin};
-ghost use Rattle.dp_plant.specs.YawRanges.{IsYawBox, IsYawGains, IsYawSetpoint, IsYawWithin};
+ghost use Rattle.dp_plant.specs.{IsLawGains, IsPair, IsPlaneBox, IsPlaneSetpoint, IsPlaneWithin, IsYawBox, IsYawGains, IsYawSetpoint, IsYawWithin};
 ghost use Rattle.dp_pid.specs.Asked.{AreDemands, IsInBox, demands_of, limited_of};
 ghost use Rattle.dp_pid.specs.Axis.{IsAlongWithin, IsPlaneAnswer, IsYawAnswer, asked_of_plane, asked_of_yaw};
 ghost use Rattle.dp_pid.specs.Body.{plane_axis, yaw_axis};
@@ -104,7 +103,8 @@ pub fn issue(
     requires pair { IsPair pair }
     requires wind { IsWindPush wind }
     ensures a { result.a ≡ demands_of g.now y.now b.now plane.now yaw.now setpoint.now pair wind }
-    ensures limited { result.limited ≡ limited_of g.now y.now b.now plane.now yaw.now setpoint.now pair wind }
+    ensures limited { result.limited
+        ≡ limited_of g.now y.now b.now plane.now yaw.now setpoint.now pair wind }
     ensures in_box { IsInBox b.now result.a }
     ensures within { AreDemands result.a }
 {

@@ -1,7 +1,6 @@
 //! Demands of the built-in plant's gains and box, but for sway's own gains; the values come from a separate program in Python.
-ghost use Rattle.dp_plant.specs.Ranges.{IsLawGains, IsPair, IsPlaneBox, IsPlaneSetpoint, IsPlaneWithin};
-ghost use Rattle.dp_plant.specs.YawRanges.{IsYawBox, IsYawGains, IsYawSetpoint, IsYawWithin};
-ghost use Rattle.dp_pid.specs.WindPush.{IsWindPush};
+ghost use Rattle.dp_plant.specs.{IsLawGains, IsPair, IsPlaneBox, IsPlaneSetpoint, IsPlaneWithin, IsYawBox, IsYawGains, IsYawSetpoint, IsYawWithin};
+ghost use Rattle.dp_pid.specs.{IsWindPush};
 
 use crate::{Asked, issue, wind_push};
 use dp_plant::{Box3, Gains, Place, PlaneState, Setpoint, YawGains, YawState, p0};

@@ -1,8 +1,8 @@
 //! What the wind pushes.
 ghost use Rattle.std.specs.Prelude.{◌≡◌, ◌≤◌, ◌<◌, ◌^◌, ◌*ℤ◌, pos, neg_ℤ, Some, All, unsigned_abs};
-ghost use Rattle.dp_fixed.specs.Order.{clamp_of};
-ghost use Rattle.dp_plant.specs.SoundPlant.{AreWindShares};
-ghost use Rattle.dp_pid.specs.WindPush.{IsWindPush, pushed_by, row_push, wind_push};
+ghost use Rattle.dp_fixed.specs.{clamp_of};
+ghost use Rattle.dp_plant.specs.{AreWindShares};
+ghost use Rattle.dp_pid.specs.{IsWindPush, pushed_by, row_push, wind_push};
 
 use dp_fixed::{clamp, floor_div, narrow, product};
 use dp_plant::WindTable;

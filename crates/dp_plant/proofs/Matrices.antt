@@ -22,20 +22,20 @@ pub three_symmetric : (numbers : List ℤ) → IsSymmetric 3 (matrix three_rows 
 three_symmetric numbers = λ i j li lj.
     let m = matrix three_rows numbers in
     below_three (λ k. entry m k j ≡ entry m j k)
-        (below_three (λ l. entry m 0 l ≡ entry m l 0) refl refl refl j lj)
-        (below_three (λ l. entry m 1 l ≡ entry m l 1) refl refl refl j lj)
-        (below_three (λ l. entry m 2 l ≡ entry m l 2) refl refl refl j lj)
-        i li
+    (below_three (λ l. entry m 0 l ≡ entry m l 0) refl refl refl j lj)
+    (below_three (λ l. entry m 1 l ≡ entry m l 1) refl refl refl j lj)
+    (below_three (λ l. entry m 2 l ≡ entry m l 2) refl refl refl j lj)
+    i li
 
 pub five_symmetric : (numbers : List ℤ) → IsSymmetric 5 (matrix five_rows numbers)
 five_symmetric numbers = λ i j li lj.
     let m = matrix five_rows numbers in
     below_five (λ k. entry m k j ≡ entry m j k)
-        (below_five (λ l. entry m 0 l ≡ entry m l 0) refl refl refl refl refl j lj)
-        (below_five (λ l. entry m 1 l ≡ entry m l 1) refl refl refl refl refl j lj)
-        (below_five (λ l. entry m 2 l ≡ entry m l 2) refl refl refl refl refl j lj)
-        (below_five (λ l. entry m 3 l ≡ entry m l 3) refl refl refl refl refl j lj)
-        (below_five (λ l. entry m 4 l ≡ entry m l 4) refl refl refl refl refl j lj)
-        i li
+    (below_five (λ l. entry m 0 l ≡ entry m l 0) refl refl refl refl refl j lj)
+    (below_five (λ l. entry m 1 l ≡ entry m l 1) refl refl refl refl refl j lj)
+    (below_five (λ l. entry m 2 l ≡ entry m l 2) refl refl refl refl refl j lj)
+    (below_five (λ l. entry m 3 l ≡ entry m l 3) refl refl refl refl refl j lj)
+    (below_five (λ l. entry m 4 l ≡ entry m l 4) refl refl refl refl refl j lj)
+    i li
 
 pub ruleset matrices = (three_symmetric, five_symmetric)

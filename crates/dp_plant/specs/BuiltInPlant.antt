@@ -18,7 +18,8 @@ use Rattle.dp_plant.specs.Vectors.{zero_place}
 abbrev pub three : ℤ → ℤ → ℤ → List ℤ
 three x y z = x ∷ y ∷ z ∷ []
 
--- the same reference three times: a window of 8 samples, steps of at most 5 m, a variance of at most 4 m², no older than 3 cycles
+-- the same reference three times: a window of 8 samples, steps of at most 5 m, a variance of at
+-- most 4 m², no older than 3 cycles
 abbrev pub built_in_reference : RefLimits
 built_in_reference = record { window = 8; jump = pos 5000000000; noise = pos 4000000; age = 3 }
 
@@ -48,7 +49,8 @@ built_in_bounds = record {
 
 -- a thruster of group 0 at the vessel's origin, which pushes ahead
 abbrev pub thruster_between : ℤ → ℤ → Thruster
-thruster_between low high = record { group = 0; at = pos 0 ∷ pos 0 ∷ []; azimuth = 0; min = low; max = high }
+thruster_between low high =
+    record { group = 0; at = pos 0 ∷ pos 0 ∷ []; azimuth = 0; min = low; max = high }
 
 -- one for each axis, with the bounds of the box as its limits
 abbrev pub built_in_thrusters : List Thruster
@@ -64,7 +66,8 @@ built_in_case = record {
   lost = 0;
   bounds = built_in_bounds;
   b = record {
-    items = three (pos (2 ^ 20)) (pos 0) (pos 0) ∷ three (pos 0) (pos (2 ^ 20)) (pos 0) ∷ three (pos 0) (pos 0) (pos (2 ^ 20)) ∷ [];
+    items = three (pos (2 ^ 20)) (pos 0) (pos 0) ∷ three (pos 0) (pos (2 ^ 20)) (pos 0)
+        ∷ three (pos 0) (pos 0) (pos (2 ^ 20)) ∷ [];
   };
 }
 
@@ -95,7 +98,9 @@ built_in_yaw_gains = record {
 }
 
 abbrev pub no_form : List (List ℤ)
-no_form = three (pos 0) (pos 0) (pos 0) ∷ three (pos 0) (pos 0) (pos 0) ∷ three (pos 0) (pos 0) (pos 0) ∷ []
+no_form =
+    three (pos 0) (pos 0) (pos 0) ∷ three (pos 0) (pos 0) (pos 0) ∷ three (pos 0) (pos 0) (pos 0)
+    ∷ []
 
 pub no_form_symmetric : IsSymmetric 3 no_form
 no_form_symmetric zero zero li lj = refl

@@ -14,13 +14,15 @@ pub data Fault : Type 0 where
   kind : List ℕ → Fault
   range : List ℕ → Fault
 
--- what comes next, unless there is a fault: keys are read one after the other, and the first fault is the answer
+-- what comes next, unless there is a fault: keys are read one after the other, and the first fault
+-- is the answer
 infixl 10 ◌>>=◌
 abbrev pub ◌>>=◌ : {A B : Type 0} → Result A Fault → (A → Result B Fault) → Result B Fault
 (Ok x) >>= f = f x
 (Err e) >>= f = Err e
 
--- the fault that a function answered is the one that reading gives, unless memory ran out; of a document it is never Toml
+-- the fault that a function answered is the one that reading gives, unless memory ran out; of a
+-- document it is never Toml
 abbrev pub Fails : {Y : Type 0} → PlantFault → Result Y Fault → Type 0
 Fails faults.Memory read = Unit {0}
 Fails faults.Toml read = ⊥
@@ -56,7 +58,8 @@ seen = option_map (λ v. view v.now)
 abbrev pub field : Option Data → List ℕ → Option Data
 field holder name = option_and_then (get name) holder
 
--- a table of the file, under its name in a fault; where the file has no such table, each of its keys is missing
+-- a table of the file, under its name in a fault; where the file has no such table, each of its
+-- keys is missing
 pub record Section : Type 0 where
   pub name : List ℕ
   pub holder : Option Data
@@ -120,7 +123,8 @@ are_within bounds zs = list_all (λ p. is_within p.0 p.1) (zip bounds zs)
 -- the same, of numbers by their index
 abbrev pub AreBetween : List (ℤ × ℤ) → (ℕ → ℤ) → Type 0
 AreBetween [] number = Unit {0}
-AreBetween (b ∷ bs) number = ((b.0 ≤ℤ number 0) × (number 0 ≤ℤ b.1)) × AreBetween bs (λ k. number (suc k))
+AreBetween (b ∷ bs) number =
+    ((b.0 ≤ℤ number 0) × (number 0 ≤ℤ b.1)) × AreBetween bs (λ k. number (suc k))
 
 -- ---- arrays
 
@@ -132,12 +136,15 @@ count (item d ds) = count ds + 1
 -- what `one` gives of each item, where it gives something of each
 abbrev pub all_some : {A : Type 0} → (Data → Option A) → Items → Option (List A)
 all_some one no_items = Some []
-all_some one (item d ds) = option_and_then (λ x. option_map (λ xs. x ∷ xs) (all_some one ds)) (one d)
+all_some one (item d ds) =
+    option_and_then (λ x. option_map (λ xs. x ∷ xs) (all_some one ds)) (one d)
 
 -- an array of least to most items, each of which `one` reads
 unfoldable pub listed : {A : Type 0} → ℕ → ℕ → (Data → Option A) → Data → Option (List A)
 listed least most one d =
-    option_and_then (λ ds. if nat_le least (count ds) && nat_le (count ds) most then all_some one ds else None) (as_array d)
+    option_and_then
+    (λ ds. if nat_le least (count ds) && nat_le (count ds) most then all_some one ds else None)
+    (as_array d)
 
 -- n whole numbers, and least to most rows of n
 abbrev pub wholes : ℕ → Data → Option (List ℤ)
@@ -171,12 +178,14 @@ unfoldable pub numbers_at : Section → List ℕ → ℕ → Result (List ℤ) F
 numbers_at s name n = found (key_in s.name name) (wholes n) (field s.holder name)
 
 unfoldable pub wholes_at : Section → List ℕ → List (ℤ × ℤ) → Result (List ℤ) Fault
-wholes_at s name bounds = numbers_at s name (length bounds) >>= in_range (key_in s.name name) (are_within bounds)
+wholes_at s name bounds =
+    numbers_at s name (length bounds) >>= in_range (key_in s.name name) (are_within bounds)
 
 -- this many rows, each of as many whole numbers as there are ranges, each within its own
 unfoldable pub rows_at : Section → List ℕ → ℕ → List (ℤ × ℤ) → Result (List (List ℤ)) Fault
 rows_at s name n bounds =
-    found (key_in s.name name) (rows (length bounds) n n) (field s.holder name) >>= in_range (key_in s.name name) (list_all (are_within bounds))
+    found (key_in s.name name) (rows (length bounds) n n) (field s.holder name) >>= in_range
+    (key_in s.name name) (list_all (are_within bounds))
 
 -- a list of at most 8 squares over n coordinates: each a row of n + 1 whole numbers
 unfoldable pub squares_at : ℕ → Section → List ℕ → Result (List (List ℤ)) Fault
@@ -187,6 +196,7 @@ unfoldable pub tables_at : Option Data → List ℕ → ℕ → ℕ → Result (
 tables_at document name least most = found name (tables least most) (field document name)
 
 -- `one` of each table, with its index
-abbrev pub each_from : {A : Type 0} → (ℕ → Data → Result A Fault) → ℕ → List Data → Result (List A) Fault
+abbrev pub each_from : {A : Type 0} → (ℕ → Data → Result A Fault) → ℕ → List Data
+    → Result (List A) Fault
 each_from one i [] = Ok []
 each_from one i (d ∷ ds) = one i d >>= (λ x. each_from one (i + 1) ds >>= (λ xs. Ok (x ∷ xs)))

@@ -1,4 +1,5 @@
--- The plant file: its keys in their order, each with its name and its range, and what becomes of them.
+-- The plant file: its keys in their order, each with its name and its range, and what becomes of
+-- them.
 use Rattle.std.specs.Prelude.{ℕ, ◌+◌, ◌-◌, ◌^◌, ◌==◌, nat_abs, ℤ, pos, ◌*ℤ◌, Bool, if◌then◌else◌, List, [], ◌∷◌, ◌++◌, length, map, replicate, take, Option, Some, Result, Ok, Err, codes}
 use Rattle.std.specs.List.{list_all, list_any}
 use Rattle.toml.specs.Data.{Data}
@@ -109,7 +110,8 @@ thruster_at groups i d = do
   Ok (record { group = group; at = at; azimuth = azimuth; min = min; max = max })
 
 unfoldable pub thrusters_at : Option Data → ℕ → Result (List Thruster) Fault
-thrusters_at document groups = tables_at document (codes "thruster") 1 12 >>= each_from (thruster_at groups) 0
+thrusters_at document groups =
+    tables_at document (codes "thruster") 1 12 >>= each_from (thruster_at groups) 0
 
 -- ---- [[case]], 1 to 32 tables
 
@@ -119,10 +121,12 @@ has_case cases mask = list_any (λ c. c.lost == mask) cases
 
 -- no case before has the same mask
 abbrev pub unlike : Section → List RawCase → ℕ → Result ℕ Fault
-unlike case before lost = if has_case before lost then Err (range (key_in case.name (codes "lost"))) else Ok lost
+unlike case before lost =
+    if has_case before lost then Err (range (key_in case.name (codes "lost"))) else Ok lost
 
 unfoldable pub lost_at : ℕ → List RawCase → Section → Result ℕ Fault
-lost_at groups before case = count_at case (codes "lost") (up_to (2 ^ groups - 1)) >>= unlike case before
+lost_at groups before case =
+    count_at case (codes "lost") (up_to (2 ^ groups - 1)) >>= unlike case before
 
 unfoldable pub case_at : ℕ → ℕ → List RawCase → Data → Result RawCase Fault
 case_at groups thrusters before d = do
@@ -130,16 +134,19 @@ case_at groups thrusters before d = do
   -- bit g stands for group g
   lost ← lost_at groups before case
   -- acceleration on surge, sway, yaw
-  lo ← wholes_at case (codes "lo") (down_to 2147483648 ∷ down_to 2147483648 ∷ down_to 274877906944 ∷ [])
+  lo ← wholes_at case (codes "lo")
+      (down_to 2147483648 ∷ down_to 2147483648 ∷ down_to 274877906944 ∷ [])
   hi ← wholes_at case (codes "hi") (up_to 2147483648 ∷ up_to 2147483648 ∷ up_to 274877906944 ∷ [])
   -- for each thruster its shares of surge, sway, yaw, over 2^20
-  b ← rows_at case (codes "b") thrusters (about 2147483648 ∷ about 2147483648 ∷ about 2147483648 ∷ [])
+  b ← rows_at case (codes "b") thrusters
+      (about 2147483648 ∷ about 2147483648 ∷ about 2147483648 ∷ [])
   Ok (record { lost = lost; bounds = record { lo = lo; hi = hi }; b = record { items = b } })
 
 -- the cases before, and those of these tables
 abbrev pub cases_after : ℕ → ℕ → List RawCase → List Data → Result (List RawCase) Fault
 cases_after groups thrusters before [] = Ok before
-cases_after groups thrusters before (d ∷ ds) = case_at groups thrusters before d >>= λ c. cases_after groups thrusters (before ++ c ∷ []) ds
+cases_after groups thrusters before (d ∷ ds) =
+    case_at groups thrusters before d >>= λ c. cases_after groups thrusters (before ++ c ∷ []) ds
 
 -- no group is lost, or each single one of these
 abbrev pub single_masks : ℕ → List ℕ
@@ -147,10 +154,13 @@ single_masks groups = take (groups + 1) (0 ∷ 1 ∷ 2 ∷ 4 ∷ 8 ∷ 16 ∷ 32
 
 -- those masks have a case each
 abbrev pub all_there : ℕ → List RawCase → Result (List RawCase) Fault
-all_there groups cases = if list_all (has_case cases) (single_masks groups) then Ok cases else Err (missing (codes "case"))
+all_there groups cases =
+    if list_all (has_case cases) (single_masks groups) then Ok cases
+    else Err (missing (codes "case"))
 
 unfoldable pub cases_at : Option Data → ℕ → ℕ → Result (List RawCase) Fault
-cases_at document groups thrusters = tables_at document (codes "case") 1 32 >>= cases_after groups thrusters [] >>= all_there groups
+cases_at document groups thrusters =
+    tables_at document (codes "case") 1 32 >>= cases_after groups thrusters [] >>= all_there groups
 
 -- ---- [gains] and [yaw]; their ranges are judged with the certificate
 
@@ -245,7 +255,8 @@ lists_view x = record {
 }
 
 -- three lists of squares, and two
-unfoldable pub three_at : ℕ → Section → List ℕ → List ℕ → List ℕ → Result (List (List (List ℤ))) Fault
+unfoldable pub three_at : ℕ → Section → List ℕ → List ℕ → List ℕ
+    → Result (List (List (List ℤ))) Fault
 three_at n cert first second third = do
   x ← squares_at n cert first
   y ← squares_at n cert second
@@ -264,7 +275,13 @@ pub record StepRows : Type 0 where
   pub output : List (List (List (List ℤ)))
 
 abbrev pub steps_view : {n : ℕ} → Steps n → StepRows
-steps_view x = record { form = square_rows x.form; vertex = map (map square_rows) x.vertex; output = map (map square_rows) x.output }
+steps_view x =
+    record {
+      form = square_rows x.form;
+      vertex = map (map square_rows) x.vertex;
+      output = map
+          (map square_rows) x.output;
+    }
 
 -- the squares of the form, of the vertices of both axes, and of their demands
 unfoldable pub steps_at : ℕ → Section → Result StepRows Fault
@@ -298,7 +315,15 @@ lists_of_three cert = do
   span ← numbers_at cert (codes "span") 3
   steps ← steps_at 3 cert
   spans ← three_at 3 cert (codes "span0") (codes "span1") (codes "span2")
-  Ok (record { p = matrix three_rows p; span = span; form = steps.form; vertex = steps.vertex; output = steps.output; spans = spans })
+  Ok (record {
+    p = matrix three_rows p;
+    span = span;
+    form = steps.form;
+    vertex = steps.vertex;
+    output =
+        steps.output;
+    spans = spans;
+  })
 
 unfoldable pub lists_of_five : Section → Result ListsData Fault
 lists_of_five cert = do
@@ -307,11 +332,21 @@ lists_of_five cert = do
   steps ← steps_at 5 cert
   spans ← three_at 5 cert (codes "span0") (codes "span1") (codes "span2")
   waves ← two_at 5 cert (codes "span3") (codes "span4")
-  Ok (record { p = matrix five_rows p; span = span; form = steps.form; vertex = steps.vertex; output = steps.output; spans = spans ++ waves })
+  Ok (record {
+    p = matrix five_rows p;
+    span = span;
+    form = steps.form;
+    vertex = steps.vertex;
+    output =
+        steps.output;
+    spans = spans ++ waves;
+  })
 
 -- version 1 has three states, version 2 five
 unfoldable pub parts_at : ℕ → Section → Result PartsData Fault
-parts_at version cert = if version == 1 then lists_of_three cert >>= (λ x. Ok (of_three x)) else lists_of_five cert >>= (λ x. Ok (of_five x))
+parts_at version cert =
+    if version == 1 then lists_of_three cert >>= (λ x. Ok (of_three x))
+    else lists_of_five cert >>= (λ x. Ok (of_five x))
 
 abbrev pub parts_view : Parts → PartsData
 parts_view (Three x) = of_three (lists_view x)

@@ -1,4 +1,5 @@
--- The ranges of a plant's numbers: what a plant file guarantees, and what a plant that can be run has besides.
+-- The ranges of a plant's numbers: what a plant file guarantees, and what a plant that can be run
+-- has besides.
 use Rattle.std.specs.Prelude.{◌≡◌, ◌<◌, ◌≤◌, ◌^◌, length, List, All, ℕ, ℤ, pos, ◌≤ℤ◌, unsigned_abs}
 use Rattle.dp_plant.specs.declared.limits.Setpoint.{Setpoint}
 use Rattle.dp_plant.specs.declared.plant.Plant.{Plant}
@@ -54,7 +55,8 @@ pub record IsCaseWithin (thrusters : ℕ) (c : RawCase) : Type 0 where
   pub rows : length c.b.items ≡ thrusters
   pub shares : All (λ row. (axis : ℕ) → unsigned_abs (entry row axis) ≤ 2 ^ 31) c.b.items
 
--- each number is in the range that a plant file allows, but for those of the gains, which are judged with the certificate
+-- each number is in the range that a plant file allows, but for those of the gains, which are
+-- judged with the certificate
 pub record IsPlantWithin (p : Plant) : Type 0 where
   pub cycle_low : 100 ≤ p.cycle_ms
   pub cycle_high : p.cycle_ms ≤ 10000

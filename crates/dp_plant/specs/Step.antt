@@ -17,8 +17,10 @@ pub record PlaneStep : Type 0 where
 abbrev pub push_of : List ℤ → List ℤ → List ℤ
 push_of demand wind = (entry demand 0 +ℤ entry wind 0) ∷ (entry demand 1 +ℤ entry wind 1) ∷ []
 
--- from the gains, the box, the setpoint, the sine pair, the wind, the state and the measured place, if there is one
-abbrev pub plane_step : Gains → Box3 → Setpoint → ℤ × ℤ → List ℤ → PlaneState → Option Place → PlaneStep
+-- from the gains, the box, the setpoint, the sine pair, the wind, the state and the measured place,
+-- if there is one
+abbrev pub plane_step : Gains → Box3 → Setpoint → ℤ × ℤ → List ℤ → PlaneState → Option Place
+    → PlaneStep
 plane_step g box setpoint pair wind x y =
     let demand = plane_demand g box setpoint pair wind x in
     record { demand = demand; next = plane_next g x y (push_of demand wind) pair }

@@ -13,8 +13,8 @@ ghost use Rattle.dp_plant.specs.BuiltInPlant.{
 };
 
 use crate::{
-    Box3, Cert, Gains, Lists, Parts, Place, Plant, RawCase, RefLimits, Setpoint, Thruster, WindTable,
-    YawGains,
+    Box3, Cert, Gains, Lists, Parts, Place, Plant, RawCase, RefLimits, Setpoint, Thruster,
+    WindTable, YawGains,
 };
 use arrayvec::ArrayVec;
 use dp_form::{Squares, Sym};

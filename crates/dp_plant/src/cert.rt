@@ -1,5 +1,5 @@
 ghost use Rattle.std.specs.Prelude.{◌≡◌};
-ghost use Rattle.dp_form.specs.Form.{IsSymmetric};
+ghost use Rattle.dp_form.specs.{IsSymmetric};
 
 use crate::lists::copied;
 use arrayvec::ArrayString;

@@ -2,9 +2,7 @@ ghost use Rattle.std.specs.Prelude.{IfOk, IsErrAnd, IsSome, IsUtf8, Ok, Some, �
 ghost use Rattle.toml.specs.Data.{Members, table};
 ghost use Rattle.toml.specs.Parse.{parse_document};
 ghost use Rattle.toml.specs.View.{view};
-ghost use Rattle.dp_plant.specs.Keys.{Gives, IsNoDocument, seen};
-ghost use Rattle.dp_plant.specs.PlantFile.{plant_at, plant_view};
-ghost use Rattle.dp_plant.specs.SoundPlant.{IsPlantWithin};
+ghost use Rattle.dp_plant.specs.{Gives, IsNoDocument, IsPlantWithin, plant_at, plant_view, seen};
 
 mod cases;
 mod certificate;
@@ -26,14 +24,10 @@ use vessel::Vessel;
 /// and `[cert]` are judged with the certificate, and not here.
 pub fn plant_of(alloc: Global, bytes: &[u8]) -> Result<Plant, PlantFault>
     // A document's plant is what the table of keys makes of it; where a key is at fault, the answer is the first such fault.
-    ensures document {
-        (ms : Members) → IsUtf8 bytes.now → parse_document bytes.now ≡ Some ms
-            → Gives plant_view result (plant_at (Some (table ms)))
-    }
+    ensures document { (ms : Members) → IsUtf8 bytes.now → parse_document bytes.now ≡ Some ms
+        → Gives plant_view result (plant_at (Some (table ms))) }
     // Other bytes are no document.
-    ensures no_document {
-        ¬ (IsUtf8 bytes.now × IsSome (parse_document bytes.now)) → IsErrAnd result IsNoDocument
-    }
+    ensures no_document { ¬ (IsUtf8 bytes.now × IsSome (parse_document bytes.now)) → IsErrAnd result IsNoDocument }
     // Each number but those of the gains is in its range.
     ensures within { IfOk result IsPlantWithin }
 {
@@ -43,13 +37,9 @@ pub fn plant_of(alloc: Global, bytes: &[u8]) -> Result<Plant, PlantFault>
 
 /// What the bytes are as a document.
 fn document_of(alloc: Global, bytes: &[u8]) -> Result<Value, PlantFault>
-    ensures document {
-        (ms : Members) → IsUtf8 bytes.now → parse_document bytes.now ≡ Some ms
-            → Gives view result (Ok (table ms))
-    }
-    ensures no_document {
-        ¬ (IsUtf8 bytes.now × IsSome (parse_document bytes.now)) → IsErrAnd result IsNoDocument
-    }
+    ensures document { (ms : Members) → IsUtf8 bytes.now → parse_document bytes.now ≡ Some ms
+        → Gives view result (Ok (table ms)) }
+    ensures no_document { ¬ (IsUtf8 bytes.now × IsSome (parse_document bytes.now)) → IsErrAnd result IsNoDocument }
 {
     match toml::table_from_slice(alloc, bytes) {
         Ok(table) => Ok(Value::Table(table)),

@@ -1,13 +1,25 @@
 ghost use Rattle.std.specs.Prelude.{
-    IfOk, IfSome, is_some, length, map, option_map, pos, ℤ, ◌+◌, ◌∷◌, ◌<◌, ◌≡◌, ◌≤ℤ◌, ◌≤◌,
+  IfOk,
+  IfSome,
+  is_some,
+  length,
+  map,
+  option_map,
+  pos,
+  ℤ,
+  ◌+◌,
+  ◌∷◌,
+  ◌<◌,
+  ◌≡◌,
+  ◌≤ℤ◌,
+  ◌≤◌,
 };
 ghost use Rattle.std.specs.List.{list_all};
 ghost use Rattle.toml.specs.Data.{as_integer, as_table};
 ghost use Rattle.toml.specs.View.{items_view, view};
 ghost use Rattle.dp_plant.specs.Keys as Keys;
-ghost use Rattle.dp_plant.specs.Keys.{AreBetween, Gives, all_some, in_section, rows, seen, tables, wholes};
-ghost use Rattle.dp_plant.specs.PlantFile.{square_row, square_rows};
-ghost use Rattle.dp_plant.specs.Vectors.{entry};
+ghost use Rattle.dp_plant.specs.Keys.{rows};
+ghost use Rattle.dp_plant.specs.{AreBetween, Gives, all_some, entry, in_section, seen, square_row, square_rows, tables, wholes};
 
 use crate::{Key, PlantFault};
 use arrayvec::ArrayVec;
@@ -63,9 +75,7 @@ pub(crate) fn number_at(
     name: &str,
 ) -> Result<i64, PlantFault>
     requires { length section.now + length name.now < 48 }
-    ensures {
-        Gives (λ z. z) result (Keys.number_at (in_section section.now holder.entry) name.now)
-    }
+    ensures { Gives (λ z. z) result (Keys.number_at (in_section section.now holder.entry) name.now) }
 {
     let value = match field(holder, name) {
         Some(value) => value,
@@ -93,10 +103,8 @@ pub(crate) fn whole_at(
     high: i64,
 ) -> Result<i64, PlantFault>
     requires { length section.now + length name.now < 48 }
-    ensures exact {
-        Gives (λ z. z) result
-            (Keys.whole_at (in_section section.now holder.entry) name.now (low, high))
-    }
+    ensures exact { Gives (λ z. z) result
+        (Keys.whole_at (in_section section.now holder.entry) name.now (low, high)) }
     ensures within { IfOk result (λ z. (low ≤ℤ z) × (z ≤ℤ high)) }
 {
     let number = number_at(holder, section, name)?;
@@ -118,10 +126,8 @@ pub(crate) fn count_at(
     high: u32,
 ) -> Result<u32, PlantFault>
     requires { length section.now + length name.now < 48 }
-    ensures exact {
-        Gives (λ n. n) result
-            (Keys.count_at (in_section section.now holder.entry) name.now (pos low, pos high))
-    }
+    ensures exact { Gives (λ n. n) result
+        (Keys.count_at (in_section section.now holder.entry) name.now (pos low, pos high)) }
     ensures within { IfOk result (λ n. (low ≤ n) × (n ≤ high)) }
 {
     let number = whole_at(holder, section, name, i64::from(low), i64::from(high))?;
@@ -161,10 +167,8 @@ pub(crate) fn numbers_at<const N: usize>(
     name: &str,
 ) -> Result<[i64; N], PlantFault>
     requires { length section.now + length name.now < 48 }
-    ensures {
-        Gives (λ zs. zs) result
-            (Keys.numbers_at (in_section section.now holder.entry) name.now N)
-    }
+    ensures { Gives (λ zs. zs) result
+        (Keys.numbers_at (in_section section.now holder.entry) name.now N) }
 {
     let value = match field(holder, name) {
         Some(value) => value,
@@ -201,10 +205,8 @@ pub(crate) fn wholes_at<const N: usize>(
     bounds: &[(i64, i64); N],
 ) -> Result<[i64; N], PlantFault>
     requires { length section.now + length name.now < 48 }
-    ensures exact {
-        Gives (λ zs. zs) result
-            (Keys.wholes_at (in_section section.now holder.entry) name.now bounds.now)
-    }
+    ensures exact { Gives (λ zs. zs) result
+        (Keys.wholes_at (in_section section.now holder.entry) name.now bounds.now) }
     ensures within { IfOk result (λ zs. AreBetween bounds.now (entry zs)) }
 {
     let numbers: [i64; N] = numbers_at(holder, section, name)?;
@@ -267,10 +269,8 @@ pub(crate) fn rows_at<const N: usize, const CAP: usize>(
 ) -> Result<ArrayVec<[i64; N], CAP>, PlantFault>
     requires key { length section.now + length name.now < 48 }
     requires room { count ≤ CAP }
-    ensures exact {
-        Gives (λ v. v.items) result
-            (Keys.rows_at (in_section section.now holder.entry) name.now count bounds.now)
-    }
+    ensures exact { Gives (λ v. v.items) result
+        (Keys.rows_at (in_section section.now holder.entry) name.now count bounds.now) }
     ensures long { IfOk result (λ v. length v.items ≡ count) }
 {
     let value = match field(holder, name) {
@@ -299,9 +299,7 @@ pub(crate) fn rows_at<const N: usize, const CAP: usize>(
 
 fn square_in<const N: usize>(first: &Value, rest: &[Value]) -> Option<Square<N>>
     requires { length rest.now ≡ N }
-    ensures {
-        option_map square_row result ≡ all_some as_integer (items_view (first.now ∷ rest.now))
-    }
+    ensures { option_map square_row result ≡ all_some as_integer (items_view (first.now ∷ rest.now)) }
 {
     let d = match first.as_integer() {
         Some(d) => d,
@@ -359,10 +357,8 @@ pub(crate) fn squares_at<const N: usize>(
     name: &str,
 ) -> Result<Squares<N>, PlantFault>
     requires { length section.now + length name.now < 48 }
-    ensures {
-        Gives square_rows result
-            (Keys.squares_at N (in_section section.now holder.entry) name.now)
-    }
+    ensures { Gives square_rows result
+        (Keys.squares_at N (in_section section.now holder.entry) name.now) }
 {
     let value = match field(holder, name) {
         Some(value) => value,
@@ -409,10 +405,8 @@ pub(crate) fn tables_at<'a>(
     most: usize,
 ) -> Result<&'a [Value], PlantFault>
     requires { length name.now ≤ 48 }
-    ensures exact {
-        Gives (λ a. map view a.now) result
-            (Keys.tables_at (seen document.entry) name.now least most)
-    }
+    ensures exact { Gives (λ a. map view a.now) result
+        (Keys.tables_at (seen document.entry) name.now least most) }
     ensures within { IfOk result (λ a. (least ≤ length a.now) × (length a.now ≤ most)) }
 {
     let value = match field(document, name) {

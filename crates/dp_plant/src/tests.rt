@@ -166,10 +166,19 @@ fn other_bytes_are_no_document(rt: HostRuntime) -> Result<(), AllocError> {
 #[test]
 fn lengths_come_to_nanometres(rt: HostRuntime) -> Result<(), AllocError> {
     let alloc = rt.alloc();
-    let text = edited(alloc, S1, 4, 6, "start = [1, -2, 3];setpoint = [-8796093, 8796093, 35999]")?;
+    let text = edited(
+        alloc,
+        S1,
+        4,
+        6,
+        "start = [1, -2, 3];setpoint = [-8796093, 8796093, 35999]",
+    )?;
     match plant_of(alloc, text.as_bytes()) {
         Ok(plant) => {
-            assert_eq!(rt; (plant.start.at.north, plant.start.at.east), (1_000_000, -2_000_000));
+            assert_eq!(rt;
+                (plant.start.at.north, plant.start.at.east),
+                (1_000_000, -2_000_000)
+            );
             assert_eq!(rt; plant.start.psi, 30_000_000);
             assert_eq!(rt; plant.setpoint.at.north, -8_796_093_000_000);
             assert_eq!(rt; plant.setpoint.at.east, 8_796_093_000_000);

@@ -18,9 +18,13 @@ verdict_on_wire limits i fs = verdict_of limits (window_on limits i fs) (length 
 -- the window is the last of all readings, with the number of the frame that brought the newest
 abbrev pub WindowIsTheLastReadings : Type 0
 WindowIsTheLastReadings = (window : ℕ) (os : List (Option Place)) →
-    window_after window no_samples 0 os ≡ kept_by (newest_of 0 0 os) (last_of window (readings_of os))
+    window_after window no_samples 0 os
+    ≡ kept_by (newest_of 0 0 os) (last_of window (readings_of os))
 
--- frames that bring the same on one wire give its reference the same window and the same verdict, whatever they bring on all others
+-- frames that bring the same on one wire give its reference the same window and the same verdict,
+-- whatever they bring on all others
 abbrev pub VerdictRestsOnItsOwnWire : Type 0
-VerdictRestsOnItsOwnWire = (limits : RefLimits) (i : ℕ) (fs gs : List Frame) → brought_on i fs ≡ brought_on i gs →
-    (window_on limits i fs ≡ window_on limits i gs) × (verdict_on_wire limits i fs ≡ verdict_on_wire limits i gs)
+VerdictRestsOnItsOwnWire =
+    (limits : RefLimits) (i : ℕ) (fs gs : List Frame) → brought_on i fs ≡ brought_on i gs →
+    (window_on limits i fs ≡ window_on limits i gs)
+    × (verdict_on_wire limits i fs ≡ verdict_on_wire limits i gs)

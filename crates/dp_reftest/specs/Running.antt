@@ -1,4 +1,5 @@
--- Sums that are kept beside a ring of places: what one place more adds, and what one less takes off.
+-- Sums that are kept beside a ring of places: what one place more adds, and what one less takes
+-- off.
 use Rattle.std.specs.Prelude.{◌≡◌, ◌≤◌, ◌==◌, ◌&&◌, ◌^◌, ℕ, ◌+◌, ◌-◌, Bool, if◌then◌else◌, nat_lt, List, [], ◌∷◌, length, Option, Some, None, ℤ, pos, int_lt, ◌+ℤ◌, ◌-ℤ◌, ◌*ℤ◌}
 use Rattle.circular_buffer.specs.Buffer.{Buffer}
 use Rattle.dp_fixed.specs.Division.{floor_of}
@@ -63,12 +64,14 @@ unfoldable pub is_frozen_by : ℕ → Sums → Bool
 is_frozen_by window s = s.n == window && s.same + 1 == s.n
 
 unfoldable pub verdict_by_variance : ℤ → Place → ℤ → Verdict
-verdict_by_variance noise newest variance = if int_lt noise variance then Noisy variance else Usable newest (weight_of variance)
+verdict_by_variance noise newest variance =
+    if int_lt noise variance then Noisy variance else Usable newest (weight_of variance)
 
 unfoldable pub verdict_by_samples : RefLimits → Sums → Place → Verdict
 verdict_by_samples limits s newest =
     if is_frozen_by limits.window s then Frozen
-    else (if nat_lt 0 s.jumps then Jumped else verdict_by_variance limits.noise newest (variance_by s))
+    else (if nat_lt 0 s.jumps then Jumped
+    else verdict_by_variance limits.noise newest (variance_by s))
 
 abbrev pub verdict_by : RefLimits → Sums → Place → ℕ → Verdict
 verdict_by limits s newest age =

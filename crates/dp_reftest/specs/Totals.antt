@@ -37,7 +37,8 @@ abbrev pub EndsIn : Place → List Place → Type 0
 EndsIn newest [] = Unit {0}
 EndsIn newest (a ∷ xs) = newest_from a xs ≡ newest
 
--- what holds of the sums of places within 2^43 of the origin; the squares of the sums are at most n times the sum of the squares
+-- what holds of the sums of places within 2^43 of the origin; the squares of the sums are at most n
+-- times the sum of the squares
 pub record AreSums (s : Sums) : Type 0 where
   pub x : unsigned_abs s.x ≤ s.n * 2 ^ 43
   pub y : unsigned_abs s.y ≤ s.n * 2 ^ 43

@@ -38,7 +38,9 @@ spread_of xs = pos (length xs) *ℤ sum_of (map (λ x. x *ℤ x) xs) -ℤ sum_of
 
 -- the variance of the samples, north and east together, in mm²
 abbrev pub variance_of : List Place → ℤ
-variance_of xs = floor_of (spread_of (map (λ p. p.north) xs) +ℤ spread_of (map (λ p. p.east) xs)) (pos (length xs) *ℤ pos (length xs) *ℤ pos (10 ^ 12))
+variance_of xs =
+    floor_of (spread_of (map (λ p. p.north) xs) +ℤ spread_of (map (λ p. p.east) xs))
+    (pos (length xs) *ℤ pos (length xs) *ℤ pos (10 ^ 12))
 
 -- the greater the variance, the less a reference counts
 abbrev pub weight_of : ℤ → ℕ
@@ -66,7 +68,8 @@ verdict_of limits kept now = judged kept.list.items
     judged [] = Silent
     judged (a ∷ xs) = verdict_on limits (now - kept.last) a xs
 
--- a verdict that can be fused: if usable, its place is within 2^43 nm of the origin, and its weight from 1 to 2^20
+-- a verdict that can be fused: if usable, its place is within 2^43 nm of the origin, and its weight
+-- from 1 to 2^20
 abbrev pub IsVerdictWithin : Verdict → Type 0
 IsVerdictWithin Silent = Unit {0}
 IsVerdictWithin (Stale age) = Unit {0}

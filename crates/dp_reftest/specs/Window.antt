@@ -18,10 +18,12 @@ kept_by last xs = record { last = last; list = record { items = xs } }
 abbrev pub no_samples : Kept
 no_samples = kept_by 0 []
 
--- after a frame: its reading, if there is one, joins the samples, and no more than a window of them is kept
+-- after a frame: its reading, if there is one, joins the samples, and no more than a window of them
+-- is kept
 abbrev pub window_next : ℕ → Kept → ℕ → Option Place → Kept
 window_next window kept cycle None = kept
-window_next window kept cycle (Some at) = kept_by cycle (last_of window (kept.list.items ++ at ∷ []))
+window_next window kept cycle (Some at) =
+    kept_by cycle (last_of window (kept.list.items ++ at ∷ []))
 
 -- ---- over a list of frames
 abbrev pub no_reading : Slot Place
@@ -41,7 +43,8 @@ brought_on i fs = map (λ f. (slot_of f.pos i).last) fs
 abbrev pub readings_of : List (Option Place) → List Place
 readings_of os = filter_map (λ o. o) os
 
--- the number of the newest frame that brought a reading, the first of them being frame n; and what it was before, where none did
+-- the number of the newest frame that brought a reading, the first of them being frame n; and what
+-- it was before, where none did
 abbrev pub newest_in : ℕ → ℕ → Option Place → ℕ
 newest_in last n None = last
 newest_in last n (Some at) = n
@@ -60,7 +63,8 @@ window_after window kept n (o ∷ os) = window_after window (window_next window 
 abbrev pub AreNear : List Place → Type 0
 AreNear xs = AllByRecursion (IsVectorWithin (2 ^ 43)) xs
 
--- the newest sample's frame is 0 where there is none, else below the next and late enough for all samples to have come
+-- the newest sample's frame is 0 where there is none, else below the next and late enough for all
+-- samples to have come
 abbrev pub IsDated : ℕ → ℕ → List Place → Type 0
 IsDated next last [] = last ≡ 0
 IsDated next last (a ∷ xs) = (last < next) × (length xs ≤ last)

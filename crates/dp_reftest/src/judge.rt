@@ -1,12 +1,8 @@
 //! The verdict, read off the sums.
 ghost use Rattle.std.specs.Prelude.{◌≡◌, ℕ, List, ◌≤◌, ◌<◌, ◌^◌, ◌+◌, ◌-◌, ◌-ℤ◌, ◌*ℤ◌, ◌≤ℤ◌, ◌<ℤ◌, pos, unsigned_abs};
 ghost use Rattle.dp_plant.specs.declared.place.Place.{Place};
-ghost use Rattle.dp_plant.specs.Ranges.{IsVectorWithin};
-ghost use Rattle.dp_plant.specs.SoundPlant.{AreRefLimits};
-ghost use Rattle.dp_reftest.specs.Running.{is_frozen_by, spread_by, square_millimetres, variance_by, verdict_by, verdict_by_samples, verdict_by_variance};
-ghost use Rattle.dp_reftest.specs.Totals.{AreSums, EndsIn, sums_of};
-ghost use Rattle.dp_reftest.specs.Verdict.{IsVerdictWithin, verdict_of, weight_of};
-ghost use Rattle.dp_reftest.specs.Window.{AreNear, kept_by};
+ghost use Rattle.dp_plant.specs.{AreRefLimits, IsVectorWithin};
+ghost use Rattle.dp_reftest.specs.{AreNear, AreSums, EndsIn, IsVerdictWithin, is_frozen_by, kept_by, spread_by, square_millimetres, sums_of, variance_by, verdict_by, verdict_by_samples, verdict_by_variance, verdict_of, weight_of};
 
 use crate::Sums;
 use dp_fixed::{difference, floor_div, product};

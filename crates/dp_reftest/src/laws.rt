@@ -1,5 +1,5 @@
 //! The laws of windows and verdicts, each the contract of a function that does nothing.
-ghost use Rattle.dp_reftest.specs.Laws.{VerdictRestsOnItsOwnWire, WindowIsTheLastReadings};
+ghost use Rattle.dp_reftest.specs.{VerdictRestsOnItsOwnWire, WindowIsTheLastReadings};
 
 /// The window of a reference is the last of all its readings.
 pub fn window_is_the_last_readings()

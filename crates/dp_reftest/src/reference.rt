@@ -1,8 +1,7 @@
 //! The tests of one reference: its window in a ring, with its sums beside it.
 ghost use Rattle.std.specs.Prelude.{◌≡◌, ◌<◌, ◌≤◌, ◌+◌, ◌-◌, ◌^◌, [], ◌∷◌, ◌++◌, length, drop, IfOk, IfSome};
 ghost use Rattle.circular_buffer.specs.Buffer.{buffer, keep_last};
-ghost use Rattle.dp_plant.specs.SoundPlant.{AreRefLimits};
-ghost use Rattle.dp_plant.specs.Ranges.{IsVectorWithin};
+ghost use Rattle.dp_plant.specs.{AreRefLimits, IsVectorWithin};
 ghost use Rattle.dp_reftest.specs.Running.{IsRunning};
 ghost use Rattle.dp_reftest.specs.Totals.{sums_of};
 ghost use Rattle.dp_reftest.specs.Window.{AreNear, IsKept};
@@ -64,7 +63,9 @@ impl RefTest {
         requires next { cycle ≡ self.old.next }
         requires within { cycle < 2 ^ 20 }
         requires near { IfSome reading (IsVectorWithin (2 ^ 43)) }
-        ensures { self.new ≡ tested_by self.old.limits (cycle + 1) (window_next self.old.limits.window self.old.kept cycle reading) }
+        ensures { self.new
+            ≡ tested_by self.old.limits (cycle + 1)
+            (window_next self.old.limits.window self.old.kept cycle reading) }
     {
         self.next = cycle + 1;
         let Some(at) = reading else {
@@ -152,7 +153,8 @@ fn push(ring: &mut HeapCircularBuffer<Place>, sums: &mut Sums, at: Place, limit:
     requires running { IsRunning limit ring.old sums.old }
     requires some { 0 < ring.old.capacity }
     requires near { IsVectorWithin (2 ^ 43) at }
-    ensures items { ring.new ≡ buffer (keep_last ring.old.capacity (ring.old.items ++ at ∷ [])) ring.old.capacity }
+    ensures items { ring.new
+        ≡ buffer (keep_last ring.old.capacity (ring.old.items ++ at ∷ [])) ring.old.capacity }
     ensures running { IsRunning limit ring.new sums.new }
 {
     make_room(ring, sums, limit);
@@ -189,7 +191,8 @@ fn enter(ring: &mut HeapCircularBuffer<Place>, sums: &mut Sums, at: Place, limit
 fn make_room(ring: &mut HeapCircularBuffer<Place>, sums: &mut Sums, limit: i64)
     requires running { IsRunning limit ring.old sums.old }
     requires some { 0 < ring.old.capacity }
-    ensures items { ring.new ≡ buffer (keep_last (ring.old.capacity - 1) ring.old.items) ring.old.capacity }
+    ensures items { ring.new
+        ≡ buffer (keep_last (ring.old.capacity - 1) ring.old.items) ring.old.capacity }
     ensures running { IsRunning limit ring.new sums.new }
     ensures room { length ring.new.items < ring.new.capacity }
 {

@@ -1,6 +1,6 @@
 //! The sums of a window, and what a place more or less does to them.
 ghost use Rattle.std.specs.Prelude.{◌≡◌, ℤ, pos, ◌*ℤ◌, ◌≤◌, ◌<◌, ◌^◌, ◌+◌, ◌-◌, ◌+ℤ◌, ◌-ℤ◌, ◌≤ℤ◌, Some, IfSome, int_lt, unsigned_abs};
-ghost use Rattle.dp_plant.specs.Ranges.{IsVectorWithin};
+ghost use Rattle.dp_plant.specs.{IsVectorWithin};
 ghost use Rattle.dp_reftest.specs.Running.{pair};
 ghost use Rattle.dp_reftest.specs.Totals.{AreSums, is_same, square_of};
 ghost use Rattle.dp_reftest.specs.Verdict.{distance, is_jump};

@@ -1,6 +1,5 @@
 ghost use Rattle.std.specs.Prelude.{◌≡◌, ◌≤◌, ◌<◌, ◌^◌, pos, ◌≤ℤ◌, IfSome, unsigned_abs};
-ghost use Rattle.dp_plant.specs.Ranges.{IsVectorWithin};
-ghost use Rattle.dp_plant.specs.SoundPlant.{AreRefLimits};
+ghost use Rattle.dp_plant.specs.{AreRefLimits, IsVectorWithin};
 
 use crate::{RefTest, Sums};
 use arrayvec::ArrayVec;

@@ -39,7 +39,9 @@ or_usual (act ∷ acts) = act ∷ acts
 -- the acts of a cycle among timed acts: its own, in order, or the usual ones where it has none
 abbrev pub acts_at : ℕ → List TimedAct → List Act
 acts_at cycle timed_acts =
-    or_usual (map (λ timed_act. timed_act.act) (filter (λ timed_act. timed_act.cycle == cycle) timed_acts))
+    or_usual
+    (map (λ timed_act. timed_act.act)
+    (filter (λ timed_act. timed_act.cycle == cycle) timed_acts))
 
 -- cycles don't go back, and the numbers of the acts are within their ranges
 pub record IsScript (timed_acts : List TimedAct) : Type 0 where

@@ -88,7 +88,8 @@ fn count_before(timed_acts: &[TimedAct], cycle: u64) -> usize
     requires { IsNonDecreasingBy (λ (timed_act : TimedAct). timed_act.cycle) timed_acts.now }
     ensures bound { result ≤ length timed_acts.now }
     ensures below { AllWithin (λ timed_act. timed_act.cycle < cycle) timed_acts.now 0 result }
-    ensures rest { AllWithin (λ timed_act. cycle ≤ timed_act.cycle) timed_acts.now result (length timed_acts.now) }
+    ensures rest { AllWithin
+        (λ timed_act. cycle ≤ timed_act.cycle) timed_acts.now result (length timed_acts.now) }
 {
     timed_acts.partition_point(|timed_act| timed_act.cycle < cycle)
 }
@@ -98,7 +99,8 @@ fn count_through(timed_acts: &[TimedAct], cycle: u64) -> usize
     requires { IsNonDecreasingBy (λ (timed_act : TimedAct). timed_act.cycle) timed_acts.now }
     ensures bound { result ≤ length timed_acts.now }
     ensures below { AllWithin (λ timed_act. timed_act.cycle ≤ cycle) timed_acts.now 0 result }
-    ensures rest { AllWithin (λ timed_act. cycle < timed_act.cycle) timed_acts.now result (length timed_acts.now) }
+    ensures rest { AllWithin
+        (λ timed_act. cycle < timed_act.cycle) timed_acts.now result (length timed_acts.now) }
 {
     timed_acts.partition_point(|timed_act| timed_act.cycle <= cycle)
 }
@@ -130,7 +132,8 @@ fn named(timed_acts: &[TimedAct], cycle: u64) -> &[TimedAct]
 fn act_at(timed_acts: &[TimedAct], i: usize) -> Act
     requires place { i < length timed_acts.now }
     requires within { All (λ timed_act. IsWithin timed_act.act) timed_acts.now }
-    ensures value { slice_get (map (λ (timed_act : TimedAct). timed_act.act) timed_acts.now) i ≡ Some result }
+    ensures value { slice_get (map (λ (timed_act : TimedAct). timed_act.act) timed_acts.now) i
+        ≡ Some result }
     ensures within { IsWithin result }
 {
     timed_acts[i].act.copy()
@@ -141,7 +144,8 @@ impl Script {
     pub fn of(alloc: Global, bytes: &[u8]) -> Result<Script, ScriptFault>
         ensures clean { OnOk result (fault_in bytes.now ≡ None) }
         ensures fault { IfErr result (λ fault. fault ≢ Memory → fault_in bytes.now ≡ Some fault) }
-        ensures timed_acts { IfOk result (λ script. script ≡ timed_acts_by (lines_of false bytes.now)) }
+        ensures timed_acts { IfOk result
+            (λ script. script ≡ timed_acts_by (lines_of false bytes.now)) }
         ensures acts { IfOk result
             (λ script. (cycle : ℕ) → acts_at cycle script ≡ acts_in cycle bytes.now) }
     {

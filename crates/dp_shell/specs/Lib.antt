@@ -11,9 +11,13 @@ pub mod Shared
 pub mod StdSink
 pub mod Taken
 pub mod Texts
-
 -- what crates above cite
+
+pub use Rattle.dp_shell.specs.Calls.{next_call}
 pub use Rattle.dp_shell.specs.Faults.{HasCause, HasWriteCause, NoneFalls, OthersStay, Rose}
-pub use Rattle.dp_shell.specs.Names.{is_among, texts_of}
+pub use Rattle.dp_shell.specs.MemoryFiles.{FitsShelf, all_differ, files_of, names_of}
+pub use Rattle.dp_shell.specs.Names.{counted, is_among, place_of, texts_of}
+pub use Rattle.dp_shell.specs.Settling.{settled}
+pub use Rattle.dp_shell.specs.Shared.{counted-shared, files-shared, missing-shared}
 pub use Rattle.dp_shell.specs.Taken.{AppendsCut, CutInLine, EndsWithLine}
-pub use Rattle.dp_shell.specs.Texts.{Files, ReadsWhole, text_named}
+pub use Rattle.dp_shell.specs.Texts.{Files, IsPart, ReadsPart, ReadsWhole, is_named, text_named, untold}

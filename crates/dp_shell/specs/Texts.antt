@@ -19,21 +19,24 @@ text_named (file ∷ files) name = if bytes_eq file.0 name then Some file.1 else
 abbrev pub is_named : Files → List ℕ → Bool
 is_named files name = is_some (text_named files name)
 
--- the first n bytes of `into` are the text's from this offset on, and n is 0 only at or past its end or where `into` is empty
+-- the first n bytes of `into` are the text's from this offset on, and n is 0 only at or past its
+-- end or where `into` is empty
 pub record IsPart (text : List ℕ) (from n : ℕ) (into : List ℕ) : Type 0 where
   pub within : n ≤ length (drop from text)
   pub copied : take n into ≡ take n (drop from text)
   pub end : n ≡ 0 → 0 < length into → length text ≤ from
 
--- where the files are told, a count is answered only for a name that is there, of whose text so many bytes were copied
+-- where the files are told, a count is answered only for a name that is there, of whose text so
+-- many bytes were copied
 abbrev pub ReadsPart : {E : Type 0} → Option Files → List ℕ → ℕ → Result ℕ E → List ℕ → Type 0
 ReadsPart None name from result into = ⊤
 ReadsPart (Some files) name from result into =
     IfOk result (λ n. IsSomeAnd (text_named files name) (λ text. IsPart text from n into))
 
--- where the files are told, the name is there, `prefix` is its text up to the limit, and `is_cut` says whether there is more
+-- where the files are told, the name is there, `prefix` is its text up to the limit, and `is_cut`
+-- says whether there is more
 abbrev pub ReadsWhole : Option Files → List ℕ → ℕ → List ℕ → Bool → Type 0
 ReadsWhole None name limit prefix is_cut = ⊤
 ReadsWhole (Some files) name limit prefix is_cut =
     IsSomeAnd (text_named files name)
-        (λ text. (prefix ≡ take limit text) × (is_cut ≡ nat_lt limit (length text)))
+    (λ text. (prefix ≡ take limit text) × (is_cut ≡ nat_lt limit (length text)))

@@ -29,10 +29,8 @@ impl<'a, R: Files> FileShelf<'a, R> {
     /// A shelf that counts the first eight of these words apart. No read has failed yet.
     pub fn new(rt: &'a R, words: &'a [&'a str]) -> Self
         ensures files { ⟦<FileShelf<'a, R> as Shelf>⟧.files result ≡ None }
-        ensures apart {
-            ⟦<FileShelf<'a, R> as Shelf>⟧.apart result
-                ≡ is_among (take 8 (texts_of words.now))
-        }
+        ensures apart { ⟦<FileShelf<'a, R> as Shelf>⟧.apart result
+            ≡ is_among (take 8 (texts_of words.now)) }
         ensures faults { (name : List ℕ) → ⟦<FileShelf<'a, R> as Shelf>⟧.faults result name ≡ 0 }
     {
         FileShelf {
@@ -54,23 +52,15 @@ impl<R: Files> Shelf for FileShelf<'_, R> {
         ensures bound { ReadsAtMost result into.new }
         ensures part { ReadsPart (untold) name.now from result into.new }
         ensures files { untold ≡ untold }
-        ensures apart {
-            is_among (texts_of self.new.words.now)
-                ≡ is_among (texts_of self.old.words.now)
-        }
-        ensures cause {
-            HasCause (counted self.old.counts (texts_of self.old.words.now) name.now)
-                (counted self.new.counts (texts_of self.new.words.now) name.now) result
-        }
-        ensures others {
-            OthersStay (is_among (texts_of self.old.words.now)) name.now
-                (counted self.old.counts (texts_of self.old.words.now))
-                    (counted self.new.counts (texts_of self.new.words.now))
-        }
-        ensures none_falls {
-            NoneFalls (counted self.old.counts (texts_of self.old.words.now))
-                (counted self.new.counts (texts_of self.new.words.now))
-        }
+        ensures apart { is_among (texts_of self.new.words.now)
+            ≡ is_among (texts_of self.old.words.now) }
+        ensures cause { HasCause (counted self.old.counts (texts_of self.old.words.now) name.now)
+            (counted self.new.counts (texts_of self.new.words.now) name.now) result }
+        ensures others { OthersStay (is_among (texts_of self.old.words.now)) name.now
+            (counted self.old.counts (texts_of self.old.words.now))
+            (counted self.new.counts (texts_of self.new.words.now)) }
+        ensures none_falls { NoneFalls (counted self.old.counts (texts_of self.old.words.now))
+            (counted self.new.counts (texts_of self.new.words.now)) }
 
         // It counts no good read.
         ensures unfailed { IsOk result → self.new.counts ≡ self.old.counts }

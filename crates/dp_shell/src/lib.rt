@@ -33,7 +33,7 @@ pub use memory_shelf::MemoryShelf;
 pub use memory_sink::MemorySink;
 pub use plain_shelf::PlainShelf;
 pub use plain_sink::PlainSink;
-pub use reading::{ReadTrouble, FilePart, read_whole};
+pub use reading::{FilePart, ReadTrouble, read_whole};
 pub use shelf::{Failed, Shelf};
 pub use sink::{Sink, Trouble};
 pub use std_sink::StdSink;

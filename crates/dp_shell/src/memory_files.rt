@@ -1,8 +1,6 @@
 ghost use Rattle.std.specs.Prelude.{◌≡◌, ◌≤◌, ◌↔◌, IsTrue, length};
 ghost use Rattle.std.specs.Option.{option_copied};
-ghost use Rattle.dp_shell.specs.MemoryFiles.{FitsShelf, all_differ, files_of, names_of};
-ghost use Rattle.dp_shell.specs.Names.{place_of};
-ghost use Rattle.dp_shell.specs.Texts.{IsPart, text_named};
+ghost use Rattle.dp_shell.specs.{FitsShelf, IsPart, all_differ, files_of, names_of, place_of, text_named};
 
 /// Whether these files can be put on a shelf in memory: they are at most 8, all of different names.
 pub fn fits_shelf(files: &[(String, Vec<u8>)]) -> bool

@@ -65,7 +65,7 @@ impl Shelf for MemoryShelf {
         // It fails exactly at the calls of these numbers and for a name that is missing, and counts no other call.
         ensures failing { IsErr result ↔
             (Contains (failing_calls self.old) (next_call (last_call self.old))
-                ⊎ IsNone (text_named (files_on self.old) name.now)) }
+            ⊎ IsNone (text_named (files_on self.old) name.now)) }
         ensures unfailed { IsOk result → faults_of self.new ≡ faults_of self.old }
         ensures calls { last_call self.new ≡ next_call (last_call self.old) }
         ensures same { failing_calls self.new ≡ failing_calls self.old }

@@ -1,7 +1,6 @@
 //! What a call of the system outside comes to: both adapters go by it.
 ghost use Rattle.std.specs.Prelude.{◌≡◌};
-ghost use Rattle.dp_shell.specs.Calls.{next_call};
-ghost use Rattle.dp_shell.specs.Settling.{settled};
+ghost use Rattle.dp_shell.specs.{next_call, settled};
 
 use std::io;
 

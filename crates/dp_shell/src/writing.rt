@@ -1,7 +1,6 @@
 ghost use Rattle.std.specs.Prelude.{◌≡◌, OnOk, OnErr};
 ghost use Rattle.std.specs.Io.KnownBytes.{Appends};
-ghost use Rattle.dp_shell.specs.Taken.{AppendsCut};
-ghost use Rattle.dp_shell.specs.Faults.{HasWriteCause};
+ghost use Rattle.dp_shell.specs.{AppendsCut, HasWriteCause};
 
 use crate::{Sink, Trouble};
 

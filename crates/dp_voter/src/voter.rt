@@ -1,5 +1,5 @@
 ghost use Rattle.std.specs.Prelude.{◌≡◌, ◌≢◌, ◌<◌, ◌≤ℤ◌, [], ◌∷◌, Some, IsNone, IsSome};
-ghost use Rattle.dp_fixed.specs.Order.{mid3_of};
+ghost use Rattle.dp_fixed.specs.{mid3_of};
 ghost use Rattle.dp_voter.specs.declared.order.Took.{Took};
 ghost use Rattle.dp_voter.specs.Ballots.{agreed_of, held_forces};
 

@@ -5,8 +5,7 @@
 //! `s,FROM,VOTER,CYCLE,FORCE` a Say, `x,C` a Stop. Seen: `K`, `O`, `D` of each computer (kept, overrun, deaf), `i,CYCLE,FORCES` an
 //! issue, else the answer's name.
 ghost use Rattle.std.specs.Prelude.{◌≡◌, ◌^◌};
-ghost use Rattle.dp_plant.specs.FrameRanges.{IsFrameWithin, IsPlaceSlotWithin};
-ghost use Rattle.dp_plant.specs.Ranges.{IsVectorWithin};
+ghost use Rattle.dp_plant.specs.{IsFrameWithin, IsPlaceSlotWithin, IsVectorWithin};
 ghost use Rattle.dp_core.specs.{IsAllowed};
 
 use super::*;
@@ -92,13 +91,7 @@ fn is_seen(seen: &Seen, wanted: &str) -> bool {
         Seen::Voted(Ballot::Fresh(force)) => a == "F" && *force == number(b),
         Seen::Voted(Ballot::Held(force)) => a == "H" && *force == number(b),
         Seen::Voted(Ballot::Zero) => a == "Z",
-        Seen::Skewed(live) => {
-            if *live {
-                a == "live"
-            } else {
-                a == "dead"
-            }
-        }
+        Seen::Skewed(live) => { if *live { a == "live" } else { a == "dead" } }
         Seen::Done => a == "done",
     }
 }

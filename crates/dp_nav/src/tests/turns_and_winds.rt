@@ -19,7 +19,10 @@ fn headings(rt: HostRuntime) {
         ("$HETHS,0.,A*1D", 0),
     ];
     for (line, want) in rows {
-        assert!(rt; sentence_on(WireKind::Gyro, line) == Some(Ok(Reading::Heading(want))), "{line}");
+        assert!(rt;
+            sentence_on(WireKind::Gyro, line) == Some(Ok(Reading::Heading(want))),
+            "{line}"
+        );
     }
 }
 
@@ -38,7 +41,10 @@ fn winds(rt: HostRuntime) {
     ];
     for (line, angle, speed) in rows {
         let want = Reading::Wind(Gust { angle, speed });
-        assert!(rt; sentence_on(WireKind::Wind, line) == Some(Ok(want)), "{line}");
+        assert!(rt;
+            sentence_on(WireKind::Wind, line) == Some(Ok(want)),
+            "{line}"
+        );
     }
 }
 
@@ -56,7 +62,10 @@ fn not_valid(rt: HostRuntime) {
         (WireKind::Wind, "$WIMWV,x,x,x,x,V*28"),
     ];
     for (kind, line) in rows {
-        assert!(rt; sentence_on(kind, line) == Some(Err(Skip::NotValid)), "{line}");
+        assert!(rt;
+            sentence_on(kind, line) == Some(Err(Skip::NotValid)),
+            "{line}"
+        );
     }
 }
 
@@ -101,6 +110,9 @@ fn bad_fields(rt: HostRuntime) {
         (WireKind::Wind, "$WIMWV*52", 5),
     ];
     for (kind, line, index) in rows {
-        assert!(rt; sentence_on(kind, line) == Some(Err(Skip::BadField { index })), "{line}");
+        assert!(rt;
+            sentence_on(kind, line) == Some(Err(Skip::BadField { index })),
+            "{line}"
+        );
     }
 }

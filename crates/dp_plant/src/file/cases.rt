@@ -1,7 +1,7 @@
 ghost use Rattle.std.specs.Prelude.{[], length, map, ◌<◌, ◌≡◌, ◌≤◌};
 ghost use Rattle.std.specs.List.{list_all};
 ghost use Rattle.toml.specs.View.{view};
-ghost use Rattle.dp_plant.specs.Keys.{Gives, in_section, seen};
+ghost use Rattle.dp_plant.specs.{Gives, in_section, seen};
 ghost use Rattle.dp_plant.specs.PlantFile as File;
 
 use crate::keys::{count_at, key_of, rows_at, section_of, tables_at, whole_key, wholes_at};
@@ -10,6 +10,7 @@ use arrayvec::ArrayVec;
 use toml::Value;
 
 const LIMIT: i64 = 2_147_483_648;
+
 const YAW_LIMIT: i64 = 274_877_906_944;
 
 /// No group is lost, and then each single one.
@@ -23,9 +24,7 @@ pub(crate) fn cases_of(
 ) -> Result<ArrayVec<RawCase, 32>, PlantFault>
     requires groups { (1 ≤ groups) × (groups ≤ 8) }
     requires thrusters { thrusters ≤ 12 }
-    ensures {
-        Gives (λ v. v.items) result (File.cases_at (seen document.entry) groups thrusters)
-    }
+    ensures { Gives (λ v. v.items) result (File.cases_at (seen document.entry) groups thrusters) }
 {
     let tables = tables_at(document, "case", 1, 32)?;
     let cases = each_case(tables, groups, thrusters)?;
@@ -45,10 +44,8 @@ fn each_case(
     requires tables { length tables.now ≤ 32 }
     requires groups { (1 ≤ groups) × (groups ≤ 8) }
     requires thrusters { thrusters ≤ 12 }
-    ensures {
-        Gives (λ v. v.items) result
-            (File.cases_after groups thrusters [] (map view tables.now))
-    }
+    ensures { Gives (λ v. v.items) result
+        (File.cases_after groups thrusters [] (map view tables.now)) }
 {
     let mut cases: ArrayVec<RawCase, 32> = ArrayVec::new();
     for table in tables {
@@ -68,9 +65,7 @@ fn case_of(
     requires before { length before.now < 32 }
     requires groups { (1 ≤ groups) × (groups ≤ 8) }
     requires thrusters { thrusters ≤ 12 }
-    ensures {
-        Gives (λ c. c) result (File.case_at groups thrusters before.now (view table.now))
-    }
+    ensures { Gives (λ c. c) result (File.case_at groups thrusters before.now (view table.now)) }
 {
     let key = section_of("case", before.len());
     let section = key.as_str();
@@ -97,10 +92,8 @@ fn lost_of(
 ) -> Result<u8, PlantFault>
     requires section { length section.now ≤ 20 }
     requires groups { (1 ≤ groups) × (groups ≤ 8) }
-    ensures {
-        Gives (λ m. m) result
-            (File.lost_at groups before.now (in_section section.now table.entry))
-    }
+    ensures { Gives (λ m. m) result
+        (File.lost_at groups before.now (in_section section.now table.entry)) }
 {
     let most = 2_u32.pow(u32::from(groups)) - 1;
     let lost = count_at(table, section, "lost", 0, most)? as u8;

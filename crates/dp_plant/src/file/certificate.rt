@@ -1,5 +1,5 @@
 ghost use Rattle.std.specs.Prelude.{[], codes, length, map, ◌<◌, ◌∷◌, ◌≡◌, ◌≤◌};
-ghost use Rattle.dp_form.specs.Form.{IsSymmetric};
+ghost use Rattle.dp_form.specs.{IsSymmetric};
 ghost use Rattle.dp_plant.specs.Keys.{Gives, in_section, seen};
 ghost use Rattle.dp_plant.specs.PlantFile as File;
 ghost use Rattle.dp_plant.specs.Vectors.{entry};
@@ -31,10 +31,8 @@ pub(crate) fn cert_of(document: Option<&Value>, version: u8) -> Result<Cert, Pla
 /// Version 1 has three states, version 2 five.
 #[tactic(auto, unfolding(crate::specs::PlantFile::parts_at))]
 fn parts_of(cert: Option<&Value>, version: u8) -> Result<Parts, PlantFault>
-    ensures {
-        Gives File.parts_view result
-            (File.parts_at version (in_section (codes "cert") cert.entry))
-    }
+    ensures { Gives File.parts_view result
+        (File.parts_at version (in_section (codes "cert") cert.entry)) }
 {
     if version == 1 {
         let lists = lists_of_three(cert)?;
@@ -46,10 +44,8 @@ fn parts_of(cert: Option<&Value>, version: u8) -> Result<Parts, PlantFault>
 
 #[tactic(auto, unfolding(crate::specs::PlantFile::lists_of_three))]
 fn lists_of_three(cert: Option<&Value>) -> Result<Lists<3>, PlantFault>
-    ensures {
-        Gives File.lists_view result
-            (File.lists_of_three (in_section (codes "cert") cert.entry))
-    }
+    ensures { Gives File.lists_view result
+        (File.lists_of_three (in_section (codes "cert") cert.entry)) }
 {
     let p = numbers_at(cert, "cert", "p")?;
     let span = numbers_at(cert, "cert", "span")?;
@@ -71,10 +67,8 @@ fn lists_of_three(cert: Option<&Value>) -> Result<Lists<3>, PlantFault>
 
 #[tactic(auto, unfolding(crate::specs::PlantFile::lists_of_five))]
 fn lists_of_five(cert: Option<&Value>) -> Result<Lists<5>, PlantFault>
-    ensures {
-        Gives File.lists_view result
-            (File.lists_of_five (in_section (codes "cert") cert.entry))
-    }
+    ensures { Gives File.lists_view result
+        (File.lists_of_five (in_section (codes "cert") cert.entry)) }
 {
     let p = numbers_at(cert, "cert", "p")?;
     let span = numbers_at(cert, "cert", "span")?;
@@ -105,10 +99,8 @@ struct Steps<const N: usize> {
 
 #[tactic(auto, unfolding(crate::specs::PlantFile::steps_at))]
 fn steps_of<const N: usize>(cert: Option<&Value>) -> Result<Steps<N>, PlantFault>
-    ensures {
-        Gives File.steps_view result
-            (File.steps_at N (in_section (codes "cert") cert.entry))
-    }
+    ensures { Gives File.steps_view result
+        (File.steps_at N (in_section (codes "cert") cert.entry)) }
 {
     let form = squares_at(cert, "cert", "form")?;
     let surge = three_of(cert, "surge0", "surge1", "surge2")?;
@@ -130,10 +122,8 @@ fn three_of<const N: usize>(
     third: &str,
 ) -> Result<[Squares<N>; 3], PlantFault>
     requires { (length first.now ≤ 20) × (length second.now ≤ 20) × (length third.now ≤ 20) }
-    ensures {
-        Gives (map File.square_rows) result
-            (File.three_at N (in_section (codes "cert") cert.entry) first.now second.now third.now)
-    }
+    ensures { Gives (map File.square_rows) result
+        (File.three_at N (in_section (codes "cert") cert.entry) first.now second.now third.now) }
 {
     let x = squares_at(cert, "cert", first)?;
     let y = squares_at(cert, "cert", second)?;
@@ -148,10 +138,8 @@ fn two_of<const N: usize>(
     second: &str,
 ) -> Result<[Squares<N>; 2], PlantFault>
     requires { (length first.now ≤ 20) × (length second.now ≤ 20) }
-    ensures {
-        Gives (map File.square_rows) result
-            (File.two_at N (in_section (codes "cert") cert.entry) first.now second.now)
-    }
+    ensures { Gives (map File.square_rows) result
+        (File.two_at N (in_section (codes "cert") cert.entry) first.now second.now) }
 {
     let x = squares_at(cert, "cert", first)?;
     let y = squares_at(cert, "cert", second)?;
@@ -166,9 +154,21 @@ fn matrix_of_three(numbers: &[i64; 6]) -> Sym<3>
 {
     Sym {
         at: [
-            [i128::from(numbers[0]), i128::from(numbers[1]), i128::from(numbers[2])],
-            [i128::from(numbers[1]), i128::from(numbers[3]), i128::from(numbers[4])],
-            [i128::from(numbers[2]), i128::from(numbers[4]), i128::from(numbers[5])],
+            [
+                i128::from(numbers[0]),
+                i128::from(numbers[1]),
+                i128::from(numbers[2]),
+            ],
+            [
+                i128::from(numbers[1]),
+                i128::from(numbers[3]),
+                i128::from(numbers[4]),
+            ],
+            [
+                i128::from(numbers[2]),
+                i128::from(numbers[4]),
+                i128::from(numbers[5]),
+            ],
         ],
     }
 }

@@ -44,9 +44,7 @@ pub(crate) fn gains_of(document: Option<&Value>, version: u8) -> Result<Gains, P
 /// A plant of version 1 has no wave filter.
 #[tactic(auto, unfolding(crate::specs::PlantFile::waves_at))]
 fn waves_of(gains: Option<&Value>, version: u8) -> Result<WaveGains, PlantFault>
-    ensures {
-        Gives (λ w. w) result (File.waves_at version (in_section (codes "gains") gains.entry))
-    }
+    ensures { Gives (λ w. w) result (File.waves_at version (in_section (codes "gains") gains.entry)) }
 {
     if version == 1 {
         return Ok(WaveGains {

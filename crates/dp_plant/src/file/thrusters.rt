@@ -1,6 +1,6 @@
 ghost use Rattle.std.specs.Prelude.{length, map, ◌<◌, ◌≤◌};
 ghost use Rattle.toml.specs.View.{view};
-ghost use Rattle.dp_plant.specs.Keys.{Gives, each_from, seen};
+ghost use Rattle.dp_plant.specs.{Gives, each_from, seen};
 ghost use Rattle.dp_plant.specs.PlantFile as File;
 
 use crate::keys::{count_at, section_of, tables_at, whole_at, wholes_at};
@@ -26,10 +26,8 @@ pub(crate) fn thrusters_of(
 fn each_thruster(tables: &[Value], groups: u8) -> Result<ArrayVec<Thruster, 12>, PlantFault>
     requires tables { length tables.now ≤ 12 }
     requires groups { (1 ≤ groups) × (groups ≤ 8) }
-    ensures {
-        Gives (λ v. v.items) result
-            (each_from (File.thruster_at groups) 0 (map view tables.now))
-    }
+    ensures { Gives (λ v. v.items) result
+        (each_from (File.thruster_at groups) 0 (map view tables.now)) }
 {
     let mut thrusters = ArrayVec::new();
     for (i, table) in tables.iter().enumerate() {

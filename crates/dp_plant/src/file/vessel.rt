@@ -16,7 +16,11 @@ const ORIGIN: [(i64, i64); 2] = [
 ];
 
 /// North and east in mm, and a heading in hundredths of a degree.
-const SPOT: [(i64, i64); 3] = [(-8_796_093, 8_796_093), (-8_796_093, 8_796_093), (0, 35_999)];
+const SPOT: [(i64, i64); 3] = [
+    (-8_796_093, 8_796_093),
+    (-8_796_093, 8_796_093),
+    (0, 35_999),
+];
 
 /// Over 2^20, for each unit of acceleration.
 const FORCE: (i64, i64) = (0, 1_099_511_627_776);

@@ -46,6 +46,8 @@ pub returns-clause-playing : goal.returns-clause-playing
 returns-clause-playing g c =
     let x = c.args.self.now in
     let fs = c.requires.playing.0 in
-    let h = c.requires.playing.1 in
-    (fs ++ c.args.frame.now ∷ [], played_more x.plant x.script x _ fs c.args.frame.now h refl refl c.cycle.ensures.plant
-    (c.cycle.ensures.represents _ h.represents) refl)
+    let h = c.requires.playing.1 in (
+      fs ++ c.args.frame.now ∷ [],
+      played_more x.plant x.script x _ fs c.args.frame.now h refl refl c.cycle.ensures.plant
+          (c.cycle.ensures.represents _ h.represents) refl,
+    )
