@@ -1,5 +1,5 @@
 -- What holds of the case that is found.
-use Rattle.std.proofs.Common.{◌≡◌, ◌<◌, ℕ, zero, suc, ◌+◌, ◌==◌, Bool, true, false, cond, List, [], ◌∷◌, length, All, Option, Some, None, IfSome, find, refl, arith}
+use Rattle.std.proofs.Common.{◌≡◌, ℕ, suc, ◌==◌, Bool, true, false, cond, List, [], ◌∷◌, length, All, Some, IfSome, find, arith}
 use Rattle.dp_plant.specs.declared.plant.Plant.{Plant}
 use Rattle.dp_plant.specs.declared.thrusters.RawCase.{RawCase}
 use Rattle.dp_plant.specs.SoundPlant.{IsCaseWithin, IsSoundPlant}

@@ -1,5 +1,5 @@
 -- What holds of a machine's parts goes on holding, cycle after cycle.
-use Rattle.std.proofs.Common.{◌≡◌, ◌≤◌, ◌<◌, ◌^◌, ℕ, zero, suc, ◌+◌, ◌-◌, min, List, [], ◌∷◌, ◌++◌, length, drop, take, All, sym, ◌∙◌, ap, subst, arith, ℤ}
+use Rattle.std.proofs.Common.{◌≡◌, ◌<◌, ◌^◌, ℕ, zero, suc, ◌+◌, ◌-◌, min, List, [], ◌∷◌, ◌++◌, length, All, sym, ◌∙◌, ap, subst, arith, ℤ}
 use Rattle.std.proofs.lemmas.List.{length-append, length-drop}
 use Rattle.std.proofs.lemmas.List.Elements.{All-append, All-drop}
 use Rattle.circular_buffer.specs.Buffer.{Buffer, buffer, keep_last}
@@ -12,7 +12,7 @@ use Rattle.dp_reftest.specs.Tested.{Tested, tested_by}
 use Rattle.dp_reftest.specs.Window.{last_of}
 use Rattle.dp_machine.specs.declared.estimates.Estimates.{Estimates}
 use Rattle.dp_machine.specs.declared.references.References.{References}
-use Rattle.dp_machine.specs.Parts.{AreDemands, AreEstimates, AreReferences, AreTaken, taken}
+use Rattle.dp_machine.specs.Parts.{AreDemands, AreEstimates, AreReferences, AreTaken}
 use Rattle.dp_machine.specs.Ranges.{IsWholeDemand}
 use Rattle.dp_machine.specs.Step.{limits_at}
 

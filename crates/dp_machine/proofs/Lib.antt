@@ -5,3 +5,4 @@ pub mod OneCycle
 pub mod Inside
 pub mod Values
 pub mod Issues
+pub mod BuiltIn

@@ -1,5 +1,5 @@
 -- The parts of a cycle, put together.
-use Rattle.std.proofs.Common.{◌≡◌, ◌≤◌, ◌^◌, ℕ, List, Option, Some, None, SomeIff, refl, sym, ◌∙◌, ap, subst, ℤ, ◌+ℤ◌, unsigned_abs}
+use Rattle.std.proofs.Common.{◌≡◌, ℕ, List, Option, Some, None, SomeIff, refl, sym, ◌∙◌, ap, subst, ℤ, ◌+ℤ◌}
 use Rattle.dp_plant.specs.declared.limits.Setpoint.{Setpoint}
 use Rattle.dp_plant.specs.declared.place.Place.{Place}
 use Rattle.dp_plant.specs.declared.plane.PlaneState.{PlaneState}

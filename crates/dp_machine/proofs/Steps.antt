@@ -1,5 +1,5 @@
 -- A cycle made from its parts is the step.
-use Rattle.std.proofs.Common.{◌≡◌, ◌<◌, ◌≤◌, ◌^◌, ℕ, ◌+◌, ◌-◌, Bool, true, false, ◌&&◌, cond, leb, List, [], ◌∷◌, ◌++◌, Option, Some, None, SomeIff, unwrap_or, refl, sym, ◌∙◌, ap, subst, arith, ℤ, unsigned_abs}
+use Rattle.std.proofs.Common.{◌≡◌, ◌≤◌, ◌^◌, ℕ, ◌+◌, ◌-◌, Bool, true, false, ◌&&◌, cond, leb, List, [], ◌∷◌, ◌++◌, Option, Some, None, SomeIff, unwrap_or, refl, sym, ◌∙◌, ap, subst, arith, ℤ, unsigned_abs}
 use Rattle.std.proofs.lemmas.Bool.Decides.{nat_tests}
 use Rattle.dp_fuse.specs.Places.{fused_place, origins_by}
 use Rattle.dp_plant.specs.declared.frames.Frame.{Frame}
@@ -25,7 +25,7 @@ use Rattle.dp_machine.specs.declared.references.References.{References}
 use Rattle.dp_machine.specs.declared.sensed.Sensed.{Sensed}
 use Rattle.dp_machine.specs.declared.state.State.{State}
 use Rattle.dp_machine.specs.Parts.{AreReferences, AreTaken, estimates_by, measured_by, plane_cycle, state_by, taken, verdicts_by, yaw_cycle}
-use Rattle.dp_machine.specs.Step.{Step, forces_by, is_near, is_place_near, is_within, limits_at, measured_at, plane_by, plane_in, push_by, sensed_by, sensed_of, step_at, step_by, verdicts_of, whole_demand, window_at, yaw_by, yaw_in}
+use Rattle.dp_machine.specs.Step.{Step, forces_by, is_near, is_place_near, is_within, limits_at, measured_at, plane_by, plane_in, push_by, sensed_by, sensed_of, step_at, step_by, verdicts_of, whole_demand, yaw_in}
 
 -- ---- the test of the ranges
 both : (a b : Bool) → a ≡ true → b ≡ true → (a && b) ≡ true

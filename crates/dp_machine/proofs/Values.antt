@@ -1,5 +1,5 @@
 -- What a machine's calls make of its value.
-use Rattle.std.proofs.Common.{◌≡◌, ◌≤◌, ◌^◌, ℕ, ◌+◌, min, List, [], ◌∷◌, length, All, refl, sym, ◌∙◌, ap, subst, arith, ℤ}
+use Rattle.std.proofs.Common.{◌≡◌, ℕ, List, [], ◌∷◌, length, All, refl, sym, ◌∙◌, ap, subst, arith, ℤ}
 use Rattle.std.proofs.lemmas.List.Elements.{All-nil}
 use Rattle.circular_buffer.specs.Buffer.{Buffer, buffer}
 use Rattle.dp_plant.specs.declared.place.Place.{Place}

@@ -8,7 +8,7 @@ use Rattle.dp_plant.specs.declared.plant.Plant.{Plant}
 use Rattle.dp_plant.specs.Ranges.{IsPlaneWithin}
 use Rattle.dp_reftest.specs.declared.kept.Kept.{Kept}
 use Rattle.dp_reftest.specs.Tested.{Tested, tested_by}
-use Rattle.dp_reftest.specs.Window.{IsKept, slot_of, window_next}
+use Rattle.dp_reftest.specs.Window.{slot_of, window_next}
 use Rattle.dp_machine.specs.declared.estimates.Estimates.{Estimates}
 use Rattle.dp_machine.specs.declared.references.References.{References}
 use Rattle.dp_machine.specs.declared.state.State.{State}

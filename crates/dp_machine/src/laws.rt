@@ -1,4 +1,5 @@
 //! The laws, each the contract of a function that does nothing.
+ghost use Rattle.dp_plant.specs.{IsSoundPlant, built_in_plant};
 ghost use Rattle.dp_machine.specs.{IssuesAreOfTheirCycle, IssuesHaveAForceForEachThruster};
 
 /// On a sound plant an issue has as many forces as the plant has thrusters.
@@ -9,4 +10,9 @@ pub fn issues_have_a_force_for_each_thruster()
 /// An issue is of the cycle that the state comes to, and the next state counts one cycle more.
 pub fn issues_are_of_their_cycle()
     ensures { IssuesAreOfTheirCycle }
+{}
+
+/// A machine can be made of the built-in plant.
+pub fn built_in_plant_is_sound()
+    ensures { IsSoundPlant built_in_plant }
 {}

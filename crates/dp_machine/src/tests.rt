@@ -1,16 +1,12 @@
 //! Cycles of the built-in plant. The expected values are worked by hand from the definitions, or come from a separate program.
 ghost use Rattle.std.specs.Prelude.{◌≡◌, ◌<◌, ◌^◌, IfSome};
-ghost use Rattle.dp_plant.specs.{IsFrameWithin, IsGustWithin, IsSoundPlant, IsVectorWithin, built_in_plant};
+ghost use Rattle.dp_plant.specs.{IsFrameWithin, IsGustWithin, IsVectorWithin};
 
 use crate::Machine;
+use crate::laws::built_in_plant_is_sound;
 use dp_plant::{Frame, Gust, Place, Slot, p0};
 use std::alloc::Global;
 use std::process::Abort;
-
-/// The built-in plant is sound.
-fn built_in_plant_is_sound()
-    ensures { IsSoundPlant built_in_plant }
-{}
 
 fn machine(rt: &impl Abort, alloc: Global) -> Machine {
     built_in_plant_is_sound();

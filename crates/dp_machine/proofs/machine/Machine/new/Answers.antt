@@ -1,5 +1,4 @@
 use Rattle.std.proofs.Common.{ap, subst, sym}
-use Rattle.circular_buffer.specs.Buffer.{Buffer}
 use Rattle.dp_plant.specs.declared.plant.Plant.{Plant}
 use Rattle.dp_plant.specs.SoundPlant.{IsSoundPlant}
 use Rattle.dp_machine.specs.Parts.{AreEstimates, AreReferences}
