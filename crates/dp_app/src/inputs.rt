@@ -13,7 +13,7 @@ use crate::player::Player;
 use crate::words::{Names, names_in};
 use arrayvec::ArrayVec;
 use dp_core::World;
-use dp_core::built_in::built_in_plant_is_sound;
+use dp_machine::laws::built_in_plant_is_sound;
 use dp_plant::{Plant, p0};
 use dp_script::{Script, ScriptFault};
 use dp_shell::{FilePart, ReadTrouble, Shelf, read_whole};

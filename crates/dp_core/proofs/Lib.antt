@@ -17,4 +17,3 @@ pub mod VoteLemmas
 mod Halts
 mod SoundPlants
 mod Limits
-mod BuiltIn

@@ -12,7 +12,6 @@ pub mod WorldView
 pub mod CanGiveDemand
 pub mod Laws
 pub mod Represents
-
 pub use Rattle.dp_core.specs.ComputerState.{after_run, after_skew, after_stop, after_wire, first_computer, is_live, mode_of, run_answer, skew_answer, wire_answer}
 pub use Rattle.dp_core.specs.Inside.{IsComputer, computer_state}
 pub use Rattle.dp_core.specs.Mode.{mode}

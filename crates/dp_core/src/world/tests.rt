@@ -9,7 +9,7 @@ ghost use Rattle.dp_plant.specs.{IsFrameWithin, IsPlaceSlotWithin, IsVectorWithi
 ghost use Rattle.dp_core.specs.{IsAllowed};
 
 use super::*;
-use crate::built_in::built_in_plant_is_sound;
+use dp_machine::laws::built_in_plant_is_sound;
 use dp_plant::{Slot, p0};
 use std::process::Abort;
 
