@@ -13,6 +13,7 @@ use Rattle.dp_fixed.specs.Order.{clamp_of}
 use Rattle.dp_fixed.specs.Scale.{full_scale, full_scale_squared}
 use Rattle.dp_machine.specs.Case.{box_of, case_of, forces_of}
 use Rattle.dp_machine.specs.Run.{issue_of}
+use Rattle.dp_machine.specs.Step as step
 use Rattle.dp_machine.specs.Step.{step_at}
 use Rattle.dp_machine.specs.declared.issue.Issue.{Issue}
 use Rattle.dp_machine.specs.declared.state.State.{State}
@@ -101,7 +102,7 @@ in-box box a b c wa wb wc (suc (suc zero)) l = wc
 in-box box a b c wa wb wc (suc (suc (suc axis))) l = absurd (omega arith)
 
 issue-in_box : (exact : FloorIsExact) (p : Plant) → IsSoundPlant p → (at : Setpoint) (s : State) (f : Frame) (x : Issue) → issue_of (step_at p at s f) ≡ Some x → IsIssueOf p s x
-unfolding step_at
+unfolding step_at step.forces_by issued_of issued_turn_of step.plane_by step.yaw_by
 issue-in_box exact p sound at s f x e =
     let box = box_of (case_of p s.lost) in
     let o = box-ordered p s.lost (case_of p s.lost) sound refl in
