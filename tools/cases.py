@@ -1,6 +1,8 @@
 """Random cases for compare.py: a record and a script of acts, as text (one character a byte).
 
-Records come in two kinds: plain local lines of the position wires alone, and lines of every wire with sentences and plain forms.
+Records come in three kinds: plain local lines of the position wires alone; lines of every wire with sentences and plain forms, good and bad;
+and watches, in which each sensor reports in nearly every cycle, with noise, jumps, frozen and silent references, headings round north and south
+and winds at the edge of what counts.
 """
 
 MOST = 8796093        # mm: how far a plain place may be
@@ -69,7 +71,8 @@ def wrong_field(rng, fields):
 
 
 def heading(rng):
-    hundredths = rng.choice([rng.randrange(36000), rng.randrange(36000), rng.randrange(200), 36000, 36001, 99999])
+    hundredths = rng.choice([rng.randrange(36000), rng.randrange(36000), rng.randrange(200),
+                             rng.choice([0, 1, 8999, 9000, 17999, 18000, 18001, 27000, 35999]), 36000, 36001, 99999])
     text = decimals(rng, str(hundredths // 100), hundredths % 100, 2)
     if one_in(rng, 2):
         return ["HEHDT", text, rng.choice("TTTTTM")]
@@ -78,6 +81,9 @@ def heading(rng):
 
 def wind(rng):
     angle_text = decimals(rng, "%03d" % rng.randrange(361), rng.randrange(100), 2)
+    if one_in(rng, 8):      # the last speed that counts in each unit, and the first that doesn't
+        edge = rng.choice([("99.999", "M"), ("100.000", "M"), ("194.383", "N"), ("194.384", "N"), ("194.385", "N"), ("359.999", "K"), ("360.000", "K")])
+        return ["WIMWV", angle_text, "R", edge[0], edge[1], "A"]
     speed = decimals(rng, str(rng.choice([0, 3, 10, 25, 99, 100, 194, 360])), rng.randrange(1000), 3)
     return ["WIMWV", angle_text, rng.choice("RRRRRTx"), speed, rng.choice("MMNKx"), rng.choice("AAAAAV")]
 
@@ -217,6 +223,50 @@ def record(rng, line):
     return ended(rng, lines)
 
 
+# ---- watches ----
+
+def noisy(rng, centre, spread):
+    return centre + rng.randrange(-spread, spread + 1)
+
+
+def watch(rng):
+    """A record in which each sensor reports in nearly every cycle."""
+    lines, time = [], 0
+    place = [rng.randrange(-30000, 30001), rng.randrange(-30000, 30001)]
+    course = rng.choice([0, 9000, 17990, 18000, 27000, 35990, rng.randrange(36000)])
+    gust = [rng.choice([0, 17990, 35990, rng.randrange(36000)]), rng.randrange(100000)]
+    states = ["good"] * 3
+    spread = rng.choice([0, 5, 300, 1500, 2500])
+    for _ in range(rng.choice([6, 20, 45])):
+        place = [noisy(rng, place[0], 400), noisy(rng, place[1], 400)]
+        course = noisy(rng, course, 40) % 36000
+        gust = [noisy(rng, gust[0], 60) % 36000, min(99999, max(0, noisy(rng, gust[1], 3000)))]
+        for wire in range(3):
+            if one_in(rng, 12):
+                states[wire] = rng.choice(["good", "good", "frozen", "silent", "jumping", "far"])
+            if states[wire] == "silent":
+                continue
+            at = [noisy(rng, place[0], spread), noisy(rng, place[1], spread)]
+            if states[wire] == "frozen":
+                at = [1234, -987]
+            if states[wire] == "jumping" and one_in(rng, 3):
+                at[0] += rng.choice([5000, 5001, 6000, -7000])
+            if states[wire] == "far":
+                at = [at[0] + 200000, at[1] - 150000]
+            lines.append("%d pos%d L %d %d" % (time, wire, at[0], at[1]))
+        for wire in range(3):
+            if not one_in(rng, 7):
+                hundredths = rng.choice([course, noisy(rng, course, 30) % 36000])
+                lines.append("%d gyro%d %s" % (time, wire, checked("HEHDT,%d.%02d,T" % (hundredths // 100, hundredths % 100))))
+        for wire in range(3):
+            if not one_in(rng, 5):
+                angle_now, speed = noisy(rng, gust[0], 90) % 36000, min(99999, max(0, noisy(rng, gust[1], 900)))
+                lines.append("%d wind%d %s" % (time, wire, checked("WIMWV,%d.%02d,R,%d.%03d,M,A" % (
+                    angle_now // 100, angle_now % 100, speed // 1000, speed % 1000))))
+        time += 1000 * (1 if not one_in(rng, 15) else rng.randrange(1, 9))
+    return "".join(line + "\n" for line in lines)
+
+
 # ---- scripts ----
 
 def computer(rng):
@@ -301,7 +351,8 @@ def script(rng):
     return ended(rng, lines)
 
 
-def case(rng, stage):
-    """A record and a script; at stage 1 no script."""
-    text = record(rng, rich_line if stage >= 3 else plain_line)
-    return text, script(rng) if stage >= 2 else None
+def case(rng):
+    """A record and a script."""
+    kind = rng.randrange(6)
+    text = watch(rng) if kind < 2 else record(rng, plain_line if kind == 2 else rich_line)
+    return text, script(rng)

@@ -1,17 +1,12 @@
 #!/usr/bin/env python3
 """Compares the built program with a reference program on generated files.
 
-    tools/compare.py CASES SEED STAGE PROGRAM -- REFERENCE...
+    tools/compare.py CASES SEED PROGRAM -- REFERENCE...
 
-PROGRAM is the built program (crates/dp_app/out/dp_app after `rt ci`), REFERENCE a command that answers the same words. STAGE says which
-words and files the cases have:
-
-    1   replay RECORD, records of plain local lines
-    2   replay RECORD SCRIPT, the same records, scripts of every verb
-    3   replay RECORD SCRIPT, records of all wires with sentences and plain forms, the same scripts
-
-Each case is random (see cases.py): good and faulty lines, gaps of cycles, either line end, a missing last line feed; now and then a file
-isn't there or a word is missing. Output and exit status have to be equal. A case that differs is made smaller, line by line, and printed.
+PROGRAM is the built program (crates/dp_app/out/dp_app after `rt ci`), REFERENCE a command that answers the same words: `replay RECORD
+SCRIPT`. Each case is random (see cases.py): records of all wires with sentences and plain forms, watches with every sensor at work in each
+cycle, scripts of every verb; good and faulty lines, gaps of cycles, either line end, a missing last line feed; now and then a file isn't
+there or a word is missing. Output and exit status have to be equal. A case that differs is made smaller, line by line, and printed.
 Nothing here is part of the gate.
 """
 import os
@@ -82,15 +77,15 @@ def report(texts, ours, theirs):
 
 def main():
     words = sys.argv[1:]
-    if len(words) < 6 or words[4] != "--":
+    if len(words) < 5 or words[3] != "--":
         sys.exit(__doc__)
-    count, seed, stage = (int(word) for word in words[:3])
+    count, seed = (int(word) for word in words[:2])
     rng = random.Random(seed)
     statuses = {}
     with tempfile.TemporaryDirectory() as folder:
-        pair = Pair([words[3]], words[5:], folder)
+        pair = Pair([words[2]], words[4:], folder)
         for number in range(count):
-            texts = [text for text in cases.case(rng, stage) if text is not None]
+            texts = list(cases.case(rng))
             odd = odd_words(rng, pair.names[: len(texts)]) if cases.one_in(rng, 40) else None
             ours, theirs = pair.answers(texts, odd)
             statuses[ours[0]] = statuses.get(ours[0], 0) + 1

@@ -9,21 +9,21 @@ use Rattle.dp_core.specs.declared.event.Event.{Event}
 use Rattle.dp_core.specs.declared.event.Event.TheVariants.{Wire}
 use Rattle.dp_core.specs.Mode.{mode}
 use Rattle.dp_core.specs.Moment.{Moment}
-use Rattle.dp_core.specs.Voting.{ballot, taken}
+use Rattle.dp_core.specs.Voting.{ballot, taken_forces}
 use Rattle.dp_report.specs.Block.{BlockValue}
-use Rattle.dp_script.specs.declared.event.Event.{Event as Scripted}
-use Rattle.dp_script.specs.Events.{acts_at}
+use Rattle.dp_script.specs.declared.timed_act.TimedAct.{TimedAct}
+use Rattle.dp_script.specs.TimedActs.{acts_at}
 use Rattle.dp_app.specs.Acting.{all_acted, cycled, voted, voters}
 use Rattle.dp_app.specs.Blocks.{block_at}
 
-pub cycled_is : (p : Plant) (script : List Scripted) (f : Frame) (es : List Event) → voted (voters p) (all_acted p f.cycle (acts_at f.cycle script) (Wire f ∷ es)) ≡ cycled p script f es
+pub cycled_is : (p : Plant) (script : List TimedAct) (f : Frame) (es : List Event) → voted (voters p) (all_acted p f.cycle (acts_at f.cycle script) (Wire f ∷ es)) ≡ cycled p script f es
 unfolding cycled
 cycled_is p script f es = refl
 
 pub block_is : (n cycle : ℕ) (h : List Moment) (modes : List Mode) (ballots : List Ballot) (held : List (List (Option ℤ)))
     → modes ≡ mode 0 h ∷ mode 1 h ∷ mode 2 h ∷ []
     → ballots ≡ map (λ k. ballot k h) (range_with_len 0 n)
-    → held ≡ map (λ k. taken k 0 h ∷ taken k 1 h ∷ taken k 2 h ∷ []) (range_with_len 0 n)
+    → held ≡ map (λ k. taken_forces k h) (range_with_len 0 n)
     → record { cycle = cycle; modes = modes; ballots = ballots; held = held } ≡ block_at n cycle h
 unfolding block_at
 block_is n cycle h modes ballots held m b o =

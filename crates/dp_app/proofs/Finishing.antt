@@ -1,9 +1,7 @@
 -- What the end of a record brings.
-use Rattle.std.proofs.Common.{◌≡◌, ℕ, ◌<◌, Bool, true, false, List, [], ◌++◌, length, drop, Option, Some, None, is_some, refl, sym, ap, ◌∙◌, arith, append_assoc}
+use Rattle.std.proofs.Common.{◌≡◌, ℕ, ◌<◌, Bool, true, false, List, [], ◌++◌, Option, Some, None, is_some, refl, sym, ap, ◌∙◌, arith, append_assoc}
 use Rattle.std.proofs.lemmas.List.{append-nil}
-use Rattle.std.proofs.Math.Seq.{drop-append_seam}
 use Rattle.dp_plant.specs.declared.frames.Frame.{Frame}
-use Rattle.dp_plant.specs.declared.plant.Plant.{Plant}
 use Rattle.dp_frame.specs.declared.fault.Refusal.{Refusal}
 use Rattle.dp_frame.specs.declared.fault.Refusal.TheVariants.{Faulty, TooMany}
 use Rattle.dp_frame.specs.declared.feed.Feed.{Feed}
@@ -14,16 +12,13 @@ use Rattle.dp_frame.specs.declared.settings.Settings.{Settings}
 use Rattle.dp_frame.specs.Cycles.{frames_given, frames_so_far, record_frames}
 use Rattle.dp_frame.specs.Feeds.{answer, calls_left, ending, given, is_closed, is_more, is_told, phase_after, told}
 use Rattle.dp_frame.specs.Record.{all_lines, ended_lines, first_refusal}
-use Rattle.dp_frame.specs.Represents.{settings_of}
 use Rattle.dp_frame.proofs.Endings.{finish-gives, finish-gives-all, told-first}
 use Rattle.dp_frame.proofs.FinishSteps.{ending-refused}
-use Rattle.dp_script.specs.declared.event.Event.{Event as Scripted}
-use Rattle.dp_app.specs.Heard.{fault_told}
+use Rattle.dp_app.specs.ReaderAnswers.{fault_in}
 use Rattle.dp_app.specs.Outcome.{record_fault}
-use Rattle.dp_app.specs.Playing.{text_left, text_then}
-use Rattle.dp_app.proofs.Reading.{told_is}
+use Rattle.dp_app.proofs.ReaderSteps.{told_is}
 
-untold : (x : Feed) → is_told x ≡ false → fault_told x ≡ None
+untold : (x : Feed) → is_told x ≡ false → fault_in x ≡ None
 untold (feed.Fault line kind) e = absurd cc
 untold (feed.TooMany line cycle) e = absurd cc
 untold (feed.Closed frame empty) e = refl
@@ -35,12 +30,12 @@ told_shut (TooMany line cycle) = refl
 
 module _ (s : Settings) (text : List ℕ) (some : 0 < s.cycle_ms) where
   -- the end tells of the first line that can't be taken
-  pub end_fault : (q : Phase) (x : Feed) → x ≡ ending s text q → fault_told x ≡ record_fault (first_refusal s (all_lines text)) false
+  pub end_fault : (q : Phase) (x : Feed) → x ≡ ending s text q → fault_in x ≡ record_fault (first_refusal s (all_lines text)) false
   end_fault q x is = by_refusal (first_refusal s (all_lines text)) refl
     where
-      by_refusal : (r : Option Refusal) → first_refusal s (all_lines text) ≡ r → fault_told x ≡ record_fault (first_refusal s (all_lines text)) false
+      by_refusal : (r : Option Refusal) → first_refusal s (all_lines text) ≡ r → fault_in x ≡ record_fault (first_refusal s (all_lines text)) false
       by_refusal (Some r) e =
-          ap fault_told (is ∙ ending-refused s text q r e) ∙ told_is r ∙ ap (λ (o : Option Refusal). record_fault o false) (sym e)
+          ap fault_in (is ∙ ending-refused s text q r e) ∙ told_is r ∙ ap (λ (o : Option Refusal). record_fault o false) (sym e)
       by_refusal None e =
           let quiet : is_told (ending s text q) ≡ false = (told-first s text 0 q (TooMany 0 0)).2 ∙ ap is_some e in
           untold x (ap is_told is ∙ quiet) ∙ ap (λ (o : Option Refusal). record_fault o false) (sym e)
@@ -100,14 +95,6 @@ module _ (s : Settings) (text : List ℕ) (some : 0 < s.cycle_ms) where
   prefix_after q x is =
       let f = given_prefix (phase_after s text q) in
       (f.0, ap (λ (l : List Frame). l ++ f.0) (given_next q (phase_after s text q) x is refl) ∙ f.1)
-
-pub left_is : (p : Plant) (script : List Scripted) (text : List ℕ) (all : List Frame)
-    → frames_so_far (settings_of p) (ended_lines text) ++ all ≡ record_frames (settings_of p) (all_lines text)
-    → text_then p script (frames_so_far (settings_of p) (ended_lines text)) all ≡ text_left p script text
-unfolding text_left
-left_is p script text all is =
-    let so_far = frames_so_far (settings_of p) (ended_lines text) in
-    ap (text_then p script so_far) (sym (drop-append_seam so_far all) ∙ ap (drop (length so_far)) is)
 
 pub not_done : (q r : Phase) → calls_left r < calls_left q → q ≡ Done → ⊥
 not_done q r less is = let none : calls_left q ≡ 0 = ap calls_left is in omega arith

@@ -1,8 +1,8 @@
 -- Each fresh force of a block is that of the reference run.
-use Rattle.std.proofs.Common.{◌≡◌, ℕ, zero, suc, ◌+◌, ◌<◌, List, [], ◌∷◌, take, drop, Option, Some, None, Ok, Err, Result, slice_get, refl, sym, ap, ◌∙◌, subst, arith}
+use Rattle.std.proofs.Common.{◌≡◌, ℕ, zero, suc, ◌+◌, ◌-◌, ◌<◌, length, List, [], ◌∷◌, take, Option, Some, None, Ok, Err, Result, slice_get, refl, sym, ap, ◌∙◌, subst, arith}
 use Rattle.std.specs.List.{range_with_len}
 use Rattle.std.specs.Option.{option_map}
-use Rattle.std.proofs.lemmas.List.{take-append-drop}
+use Rattle.std.proofs.lemmas.List.{length-take}
 use Rattle.std.proofs.lemmas.Option.{slice_get-map}
 use Rattle.dp_plant.specs.declared.frames.Frame.{Frame}
 use Rattle.dp_plant.specs.declared.plant.Plant.{Plant}
@@ -10,30 +10,29 @@ use Rattle.dp_plant.specs.declared.voting.Ballot.{Ballot}
 use Rattle.dp_plant.specs.declared.voting.Ballot.TheVariants.{Fresh}
 use Rattle.dp_core.specs.declared.event.Event.{Event}
 use Rattle.dp_core.specs.declared.event.Event.TheVariants.{Wire}
-use Rattle.dp_core.specs.Faulty.{AtMostOneFaulty}
 use Rattle.dp_core.specs.History.{history}
 use Rattle.dp_core.specs.Laws.{FreshIsReference}
 use Rattle.dp_core.specs.Moment.{Moment}
-use Rattle.dp_core.specs.Reference.{IsReferenceForce}
-use Rattle.dp_core.specs.Voting.{ballot, given}
-use Rattle.dp_core.proofs.HistoryLemmas.{faulty-before}
+use Rattle.dp_core.specs.Mode.{cycles_begun}
+use Rattle.dp_machine.specs.Reference.{force_of}
+use Rattle.dp_machine.specs.Run.{own_setpoints}
+use Rattle.dp_core.specs.Voting.{ballot, given_ballot}
 use Rattle.dp_report.specs.Block.{BlockValue}
-use Rattle.dp_script.specs.declared.event.Event.{Event as Scripted}
-use Rattle.dp_script.specs.Events.{acts_at}
+use Rattle.dp_script.specs.declared.timed_act.TimedAct.{TimedAct}
+use Rattle.dp_script.specs.TimedActs.{acts_at}
 use Rattle.dp_app.specs.declared.fault.Fault.{Fault}
 use Rattle.dp_app.specs.Acting.{all_acted, cycled, played, voters}
 use Rattle.dp_app.specs.Blocks.{block_at, block_of, blocks}
 use Rattle.dp_app.specs.Headline.{FreshForcesAreReference, TellsReferenceForces}
 use Rattle.dp_app.specs.Outcome.{Play}
 use Rattle.dp_app.proofs.Blocks.{cycled_is}
-use Rattle.dp_app.proofs.Heard.{frames_played}
-use Rattle.dp_app.proofs.LaterEvents.{played_after}
+use Rattle.dp_app.proofs.PlayedFrames.{begun_played, frames_played}
 use Rattle.dp_app.proofs.Lists.{take_next}
-use Rattle.dp_app.proofs.Plays.{played_append, played_next}
+use Rattle.dp_app.proofs.Plays.{played_next}
 use Rattle.dp_app.proofs.Votes.{given_voted}
 
 -- the cycle that a block tells
-pub record Found (p : Plant) (script : List Scripted) (fs : List Frame) (es : List Event) (n : ℕ) (b : BlockValue) : Type 0 where
+pub record Found (p : Plant) (script : List TimedAct) (fs : List Frame) (es : List Event) (n : ℕ) (b : BlockValue) : Type 0 where
   pub frame : Frame
   pub at : slice_get fs n ≡ Some frame
   pub is : b ≡ block_of p frame.cycle (cycled p script frame (played p script (take n fs) es))
@@ -41,7 +40,7 @@ pub record Found (p : Plant) (script : List Scripted) (fs : List Frame) (es : Li
 some_is : {A : Type 0} (x y : A) → Some x ≡ Some y → x ≡ y
 some_is x y e = cc
 
-found : (p : Plant) (script : List Scripted) (fs : List Frame) (es : List Event) (n : ℕ) (b : BlockValue) → slice_get (blocks p script fs es) n ≡ Some b → Found p script fs es n b
+found : (p : Plant) (script : List TimedAct) (fs : List Frame) (es : List Event) (n : ℕ) (b : BlockValue) → slice_get (blocks p script fs es) n ≡ Some b → Found p script fs es n b
 unfolding blocks played
 found p script [] es n b e = absurd cc
 found p script (f ∷ fs) es zero b e = record { frame = f; at = refl; is = sym (some_is _ b e) }
@@ -67,35 +66,36 @@ unfolding block_at
 ballot_at n cycle k h b e =
     listed n k h b (slice_get (range_with_len 0 n) k) refl (sym (slice_get-map (λ j. ballot j h) (range_with_len 0 n) k) ∙ e)
 
-module _ (law : FreshIsReference) (p : Plant) (script : List Scripted) (fs : List Frame) where
+within : (fs : List Frame) (n : ℕ) (f : Frame) → slice_get fs n ≡ Some f → n < length fs
+within [] n f e = absurd cc
+within (g ∷ fs) zero f e = omega arith
+within (g ∷ fs) (suc n) f e = let later = within fs n f e in omega arith
+
+module _ (law : FreshIsReference) (p : Plant) (script : List TimedAct) (fs : List Frame) where
   cycle_is : (n : ℕ) (f : Frame) → slice_get fs n ≡ Some f → cycled p script f (played p script (take n fs) []) ≡ played p script (take (n + 1) fs) []
   cycle_is n f at = sym (ap (λ (l : List Frame). played p script l []) (take_next fs n f at) ∙ played_next p script (take n fs) f [])
 
-  one_before : (n : ℕ) → AtMostOneFaulty (history p (played p script fs [])) → AtMostOneFaulty (history p (played p script (take (n + 1) fs) []))
-  one_before n one =
-      let whole : played p script (drop (n + 1) fs) (played p script (take (n + 1) fs) []) ≡ played p script fs [] =
-      sym (played_append p script (take (n + 1) fs) (drop (n + 1) fs) []) ∙ ap (λ (l : List Frame). played p script l []) (take-append-drop (n + 1) fs) in
-      let later = played_after p script (drop (n + 1) fs) (played p script (take (n + 1) fs) []) in
-      faulty-before p later.0 (played p script (take (n + 1) fs) [])
-      (subst (λ (l : List Event). AtMostOneFaulty (history p l)) (sym whole ∙ later.1) one)
-
   given_in : (n k : ℕ) (f : Frame) → k < voters p → slice_get fs n ≡ Some f
-      → given k (history p (played p script (take (n + 1) fs) [])) ≡ Some (ballot k (history p (played p script (take (n + 1) fs) [])))
+      → given_ballot k (history p (played p script (take (n + 1) fs) [])) ≡ Some (ballot k (history p (played p script (take (n + 1) fs) [])))
   given_in n k f lt at =
       let before = all_acted p f.cycle (acts_at f.cycle script) (Wire f ∷ played p script (take n fs) []) in
-      subst (λ (l : List Event). given k (history p l) ≡ Some (ballot k (history p l)))
+      subst (λ (l : List Event). given_ballot k (history p l) ≡ Some (ballot k (history p l)))
       (cycled_is p script f (played p script (take n fs) []) ∙ cycle_is n f at)
       (given_voted p (voters p) k before lt)
 
-  pub fresh_forces : AtMostOneFaulty (history p (played p script fs [])) → FreshForcesAreReference p fs (blocks p script fs [])
-  fresh_forces one n k b f at fresh =
+  pub fresh_forces : FreshForcesAreReference p script fs (blocks p script fs [])
+  fresh_forces n k b f one at fresh =
       let c = found p script fs [] n b at in
       let es = played p script (take (n + 1) fs) [] in
       let is : b ≡ block_of p c.frame.cycle es = c.is ∙ ap (λ (l : List Event). block_of p c.frame.cycle l) (cycle_is n c.frame c.at) in
       let b_at = ballot_at (voters p) c.frame.cycle k (history p es) (Fresh f) (subst (λ (x : BlockValue). slice_get x.ballots k ≡ Some (Fresh f)) is fresh) in
-      let told : given k (history p es) ≡ Some (Fresh f) = given_in n k c.frame b_at.0 c.at ∙ ap Some b_at.1 in
-      subst (λ (l : List Frame). IsReferenceForce p l k f) (frames_played p script (take (n + 1) fs)) (law p es (one_before n one) k f told)
+      let told : given_ballot k (history p es) ≡ Some (Fresh f) = given_in n k c.frame b_at.0 c.at ∙ ap Some b_at.1 in
+      let began : cycles_begun (history p es) - 1 ≡ n =
+      omega (arith, begun_played p script (take (n + 1) fs), length-take (n + 1) fs, within fs n c.frame c.at) in
+      subst (λ (m : ℕ). force_of p (own_setpoints p) (take (n + 1) fs) m k ≡ Some f) began
+      (subst (λ (l : List Frame). force_of p (own_setpoints p) l (cycles_begun (history p es) - 1) k ≡ Some f)
+      (frames_played p script (take (n + 1) fs)) (law p es one k f told))
 
-pub tells : (law : FreshIsReference) (asked : Result Play Fault) → TellsReferenceForces asked
-tells law (Ok x) = λ one. fresh_forces law x.plant x.script x.frames one
+pub tells : (law : FreshIsReference) (x : Result Play Fault) → TellsReferenceForces x
+tells law (Ok x) = fresh_forces law x.plant x.script x.frames
 tells law (Err fault) = tt

@@ -8,7 +8,7 @@ use Rattle.dp_core.specs.declared.event.Event.{Event}
 use Rattle.dp_core.specs.declared.event.Event.TheVariants.{Order, Vote}
 use Rattle.dp_report.specs.Block.{block_text}
 use Rattle.dp_script.specs.declared.act.Act.{Act}
-use Rattle.dp_script.specs.declared.event.Event.{Event as Scripted}
+use Rattle.dp_script.specs.declared.timed_act.TimedAct.{TimedAct}
 use Rattle.dp_app.specs.Acting.{acted, all_acted, cycled, ordered, played, voted}
 use Rattle.dp_app.specs.Blocks.{block_of, blocks, text_of}
 use Rattle.dp_app.proofs.Lists.{take_next}
@@ -50,7 +50,7 @@ module _ (p : Plant) (cycle : ℕ) where
       ∙ acted_append (take i acts) (x ∷ []) es
       ∙ acted_one x (all_acted p cycle (take i acts) es)
 
-module _ (p : Plant) (script : List Scripted) where
+module _ (p : Plant) (script : List TimedAct) where
   pub played_append : (fs gs : List Frame) (es : List Event) → played p script (fs ++ gs) es ≡ played p script gs (played p script fs es)
   unfolding played
   played_append [] gs es = refl

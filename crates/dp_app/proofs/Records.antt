@@ -1,8 +1,6 @@
 -- What a record plays, from what its ended lines and its end bring.
-use Rattle.std.proofs.Common.{◌≡◌, ℕ, ◌<◌, Bool, true, false, List, [], ◌++◌, length, drop, Option, Some, None, Result, Ok, Err, IfOk, OnOk, OnErr, is_some, if◌then◌else◌, refl, sym, ap, ◌∙◌, subst}
-use Rattle.std.proofs.Math.Seq.{drop-append_seam}
+use Rattle.std.proofs.Common.{◌≡◌, ℕ, ◌<◌, Bool, true, false, List, [], ◌++◌, Option, Some, None, Result, Ok, Err, IfOk, is_some, if◌then◌else◌, refl, sym, ap, ◌∙◌, subst}
 use Rattle.std.proofs.lemmas.List.{append-nil}
-use Rattle.std.specs.Io.KnownBytes.{Appends}
 use Rattle.dp_plant.specs.declared.frames.Frame.{Frame}
 use Rattle.dp_plant.specs.declared.plant.Plant.{Plant}
 use Rattle.dp_frame.specs.declared.fault.Refusal.{Refusal}
@@ -13,16 +11,13 @@ use Rattle.dp_frame.specs.Cycles.{frames_so_far, record_frames, record_length}
 use Rattle.dp_frame.specs.Record.{all_lines, ended_lines, first_refusal}
 use Rattle.dp_frame.specs.Represents.{settings_of}
 use Rattle.dp_frame.proofs.Endings.{refusal-ends}
-use Rattle.dp_script.specs.declared.event.Event.{Event as Scripted}
-use Rattle.dp_shell.specs.Taken.{AppendsPrefix}
-use Rattle.dp_shell.proofs.Taken.{appends_then, before_prefix}
+use Rattle.dp_script.specs.declared.timed_act.TimedAct.{TimedAct}
 use Rattle.dp_app.specs.declared.fault.Fault.{Fault}
-use Rattle.dp_app.specs.declared.fault.Fault.TheVariants.{LongRecord}
+use Rattle.dp_app.specs.declared.fault.Fault.TheVariants.{Long}
+use Rattle.dp_app.specs.declared.fault.File.TheVariants.{Record}
 use Rattle.dp_app.specs.Outcome.{Prefix, IsOfRecord, frames_played, lines_of, play_of, record_fault, refused_by}
-use Rattle.dp_app.specs.Playing.{text_first, text_left}
-use Rattle.dp_app.proofs.Finishing.{given_prefix, given_open, left_is}
-use Rattle.dp_app.proofs.Playing.{first_prefix_whole, first_more}
-use Rattle.dp_app.proofs.Reading.{a_refusal}
+use Rattle.dp_app.proofs.Finishing.{given_prefix, given_open}
+use Rattle.dp_app.proofs.ReaderSteps.{a_refusal}
 
 -- where a line can't be taken the cycles before that of the last good one are all
 refused_frames : (s : Settings) (lines : List (List ℕ)) (r : Refusal) → first_refusal s lines ≡ Some r → record_frames s lines ≡ frames_so_far s lines
@@ -41,7 +36,7 @@ fault_true : (o : Option Refusal) (r : Refusal) → o ≡ Some r → record_faul
 fault_true (Some x) r e = refl
 fault_true None r e = absurd cc
 
-module _ (p : Plant) (script : List Scripted) (f : Prefix) (some : 0 < (settings_of p).cycle_ms) where
+module _ (p : Plant) (script : List TimedAct) (f : Prefix) (some : 0 < (settings_of p).cycle_ms) where
   fault_is : (play_of p script f).fault ≡ record_fault (first_refusal (settings_of p) (lines_of f)) f.goes_on
   unfolding play_of
   fault_is = refl
@@ -104,65 +99,27 @@ module _ (p : Plant) (script : List Scripted) (f : Prefix) (some : 0 < (settings
       let r = a_refusal (first_refusal (settings_of p) (ended_lines f.text)) x (sym is) in
       early_of r.0 (Some x) r.1 is f.goes_on refl
 
-  pub long_record : f.goes_on ≡ true → first_refusal (settings_of p) (ended_lines f.text) ≡ None → Some LongRecord ≡ (play_of p script f).fault
+  pub long_record : f.goes_on ≡ true → first_refusal (settings_of p) (ended_lines f.text) ≡ None → Some (Long Record) ≡ (play_of p script f).fault
   long_record cut none = ap (λ (o : Option Refusal). record_fault o true) (sym none) ∙ cut_fault cut
 
   -- the cycles that are over with the ended lines are the first ones
-  prefix_of_play : (b : Bool) → f.goes_on ≡ b → (rest : List Frame) × (frames_so_far (settings_of p) (ended_lines f.text) ++ rest ≡ (play_of p script f).frames)
+  pub prefix_of_play : (b : Bool) → f.goes_on ≡ b → (rest : List Frame) × (frames_so_far (settings_of p) (ended_lines f.text) ++ rest ≡ (play_of p script f).frames)
   prefix_of_play true cut = ([], append-nil _ ∙ cut_frames cut)
   prefix_of_play false whole =
       let g = given_prefix (settings_of p) f.text some Open in
       (g.0, ap (λ (l : List Frame). l ++ g.0) (given_open (settings_of p) f.text some Open refl) ∙ g.1 ∙ whole_frames whole)
-
-  pub prefix_taken : (a c : Option (List ℕ)) → AppendsPrefix a c (text_first p script (frames_so_far (settings_of p) (ended_lines f.text))) → AppendsPrefix a c (text_first p script (play_of p script f).frames)
-  prefix_taken a c y =
-      let rest = prefix_of_play f.goes_on refl in
-      first_prefix_whole p script a c (frames_so_far (settings_of p) (ended_lines f.text)) rest.0 (play_of p script f).frames rest.1 y
-
-  -- with what the end brings it is all
-  left_whole : frames_so_far (settings_of p) (ended_lines f.text) ++ drop (length (frames_so_far (settings_of p) (ended_lines f.text))) (record_frames (settings_of p) (all_lines f.text)) ≡ record_frames (settings_of p) (all_lines f.text)
-  left_whole =
-      let g = given_prefix (settings_of p) f.text some Open in
-      let so_far = frames_so_far (settings_of p) (ended_lines f.text) in
-      let split : so_far ++ g.0 ≡ record_frames (settings_of p) (all_lines f.text) = ap (λ (l : List Frame). l ++ g.0) (given_open (settings_of p) f.text some Open refl) ∙ g.1 in
-      ap (λ (l : List Frame). so_far ++ l) (ap (drop (length so_far)) (sym split) ∙ drop-append_seam so_far g.0) ∙ split
-
-  pub left_text : text_first p script (frames_so_far (settings_of p) (ended_lines f.text)) ++ text_left p script f.text ≡ text_first p script (record_frames (settings_of p) (all_lines f.text))
-  left_text =
-      ap (λ (l : List ℕ). text_first p script (frames_so_far (settings_of p) (ended_lines f.text)) ++ l) (sym (left_is p script f.text _ left_whole))
-      ∙ sym (first_more p script (frames_so_far (settings_of p) (ended_lines f.text)) _) ∙ ap (text_first p script) left_whole
-
-  pub left_taken : (a b c : Option (List ℕ)) → f.goes_on ≡ false → Appends a b (text_first p script (frames_so_far (settings_of p) (ended_lines f.text)))
-      → Appends b c (text_left p script f.text) → Appends a c (text_first p script (play_of p script f).frames)
-  left_taken a b c whole x y =
-      subst (λ (l : List ℕ). Appends a c l) (left_text ∙ ap (text_first p script) (whole_frames whole))
-      (appends_then a b c (text_first p script (frames_so_far (settings_of p) (ended_lines f.text))) (text_left p script f.text) x y)
-
-  pub left_prefix : (a b c : Option (List ℕ)) → f.goes_on ≡ false → Appends a b (text_first p script (frames_so_far (settings_of p) (ended_lines f.text)))
-      → AppendsPrefix b c (text_left p script f.text) → AppendsPrefix a c (text_first p script (play_of p script f).frames)
-  left_prefix a b c whole x y =
-      let first = text_first p script (frames_so_far (settings_of p) (ended_lines f.text)) in
-      let left = text_left p script f.text in
-      let is : first ++ (left ++ []) ≡ text_first p script (play_of p script f).frames =
-      ap (λ (l : List ℕ). first ++ l) (append-nil left) ∙ left_text ∙ ap (text_first p script) (whole_frames whole) in
-      before_prefix a b c left [] (text_first p script (play_of p script f).frames) (record { done = first; taken = x; whole = is }) y
 
 pub of_record : (o : Option Refusal) → IsOfRecord (record_fault o false)
 of_record None = tt
 of_record (Some r) = by_kind r
   where
     by_kind : (x : Refusal) → IsOfRecord (Some (refused_by x))
-    by_kind (Faulty line kind) = (λ e. absurd cc, λ e. absurd cc)
-    by_kind (TooMany line cycle) = (λ e. absurd cc, λ e. absurd cc)
+    by_kind (Faulty line kind) = (tt, λ e. absurd cc)
+    by_kind (TooMany line cycle) = (tt, λ e. absurd cc)
 
 pub ok_of_record : {E : Type 0} (r : Result (Option Fault) E) (o : Option Refusal) → IfOk r (λ x. x ≡ record_fault o false) → IfOk r IsOfRecord
 ok_of_record (Ok x) o is = subst IsOfRecord (sym is) (of_record o)
 ok_of_record (Err e) o is = tt
 
-pub on_ok : {A B : Type 0} (r : Result A B) (P Q : Type 0) → (P → Q) → OnOk r P → OnOk r Q
-on_ok (Ok x) P Q f h = f h
-on_ok (Err e) P Q f h = tt
-
-pub on_err : {A B : Type 0} (r : Result A B) (P Q : Type 0) → (P → Q) → OnErr r P → OnErr r Q
-on_err (Ok x) P Q f h = tt
-on_err (Err e) P Q f h = f h
+pub of_fault : (fault : Option Fault) (o : Option Refusal) → fault ≡ record_fault o false → IsOfRecord fault
+of_fault fault o is = subst IsOfRecord (sym is) (of_record o)

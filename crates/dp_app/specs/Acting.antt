@@ -6,8 +6,8 @@ use Rattle.dp_core.specs.declared.event.Event.{Event}
 use Rattle.dp_core.specs.declared.event.Event.TheVariants as event
 use Rattle.dp_script.specs.declared.act.Act.{Act}
 use Rattle.dp_script.specs.declared.act.Act.TheVariants.{Run, Order, Orders, Skew, Say, Stop}
-use Rattle.dp_script.specs.declared.event.Event.{Event as Scripted}
-use Rattle.dp_script.specs.Events.{acts_at}
+use Rattle.dp_script.specs.declared.timed_act.TimedAct.{TimedAct}
+use Rattle.dp_script.specs.TimedActs.{acts_at}
 
 abbrev pub voters : Plant → ℕ
 voters p = length p.thrusters.items
@@ -28,7 +28,8 @@ acted p cycle (Run c) es = event.Run c ∷ es
 acted p cycle (Order c k) es = if nat_lt k (voters p) then event.Order c k ∷ es else es
 acted p cycle (Orders c) es = ordered c (voters p) es
 acted p cycle (Skew c at) es = event.Skew c (record { north = at.0; east = at.1 }) ∷ es
-acted p cycle (Say c k force) es = if nat_lt k (voters p) then event.Say c k cycle force ∷ es else es
+acted p cycle (Say c k force) es =
+    if nat_lt k (voters p) then event.Say c k cycle force ∷ es else es
 acted p cycle (Stop c) es = event.Stop c ∷ es
 
 -- acts, one after another
@@ -37,10 +38,11 @@ all_acted p cycle [] es = es
 all_acted p cycle (act ∷ acts) es = all_acted p cycle acts (acted p cycle act es)
 
 -- a cycle: its frame is heard, the script's acts of this cycle are done, and each voter votes
-unfoldable pub cycled : Plant → List Scripted → Frame → List Event → List Event
-cycled p script f es = voted (voters p) (all_acted p f.cycle (acts_at f.cycle script) (event.Wire f ∷ es))
+unfoldable pub cycled : Plant → List TimedAct → Frame → List Event → List Event
+cycled p script f es = voted (voters p)
+    (all_acted p f.cycle (acts_at f.cycle script) (event.Wire f ∷ es))
 
 -- one cycle for each frame
-unfoldable pub played : Plant → List Scripted → List Frame → List Event → List Event
+unfoldable pub played : Plant → List TimedAct → List Frame → List Event → List Event
 played p script [] es = es
 played p script (f ∷ fs) es = played p script fs (cycled p script f es)

@@ -6,10 +6,10 @@ use Rattle.dp_plant.specs.declared.plant.Plant.{Plant}
 use Rattle.dp_core.specs.History.{history}
 use Rattle.dp_core.specs.Moment.{Moment}
 use Rattle.dp_core.specs.Mode.{mode}
-use Rattle.dp_core.specs.Voting.{ballot, taken}
+use Rattle.dp_core.specs.Voting.{ballot, taken_forces}
 use Rattle.dp_core.specs.declared.event.Event.{Event}
 use Rattle.dp_report.specs.Block.{BlockValue, block_text}
-use Rattle.dp_script.specs.declared.event.Event.{Event as Scripted}
+use Rattle.dp_script.specs.declared.timed_act.TimedAct.{TimedAct}
 use Rattle.dp_app.specs.Acting.{cycled, voters}
 
 -- at the end of a cycle: how each computer takes part, and the ballot of each of n voters and the orders that it took
@@ -18,7 +18,7 @@ block_at n cycle h = record {
   cycle = cycle;
   modes = mode 0 h ∷ mode 1 h ∷ mode 2 h ∷ [];
   ballots = map (λ k. ballot k h) (range_with_len 0 n);
-  held = map (λ k. taken k 0 h ∷ taken k 1 h ∷ taken k 2 h ∷ []) (range_with_len 0 n);
+  held = map (λ k. taken_forces k h) (range_with_len 0 n);
 }
 
 -- the block of a cycle that ends with these events
@@ -26,9 +26,10 @@ abbrev pub block_of : Plant → ℕ → List Event → BlockValue
 block_of p cycle es = block_at (voters p) cycle (history p es)
 
 -- the blocks of one cycle after another, after these events
-unfoldable pub blocks : Plant → List Scripted → List Frame → List Event → List BlockValue
+unfoldable pub blocks : Plant → List TimedAct → List Frame → List Event → List BlockValue
 blocks p script [] es = []
-blocks p script (f ∷ fs) es = block_of p f.cycle (cycled p script f es) ∷ blocks p script fs (cycled p script f es)
+blocks p script (f ∷ fs) es = block_of p f.cycle (cycled p script f es)
+    ∷ blocks p script fs (cycled p script f es)
 
 -- their text
 abbrev pub text_of : List BlockValue → List ℕ

@@ -1,32 +1,44 @@
--- Why a fault of reading may be answered.
-use Rattle.std.specs.Prelude.{◌≡◌, ◌≢◌, ◌⊎◌, ℕ, Bool, List, Option, None, IfSome, IsSomeAnd, IsTrue}
-use Rattle.std.specs.Io.KnownBytes.{Appends}
+-- Why a fault of reading may be answered: the files that a command reads are listed in the order in which it reads them.
+use Rattle.std.specs.Prelude.{◌≡◌, ◌≢◌, ◌⊎◌, ℕ, Bool, List, [], ◌∷◌, Option, Some, None, IfSome, IsSomeAnd, IsTrue}
 use Rattle.dp_shell.specs.Faults.{Rose}
 use Rattle.dp_shell.specs.Texts.{Files, text_named}
-use Rattle.dp_app.specs.declared.fault.Fault.TheVariants.{ReadScript, ReadRecord}
-use Rattle.dp_app.specs.FaultLines.{fault_line}
+use Rattle.dp_app.specs.declared.fault.Fault.{Fault}
+use Rattle.dp_app.specs.declared.fault.File.{File}
+use Rattle.dp_app.specs.declared.fault.File.TheVariants.{Script, Record}
 use Rattle.dp_app.specs.Outcome.{prefix_of, script_fault_of, script_limit}
-use Rattle.dp_app.specs.Words.{Names}
+use Rattle.dp_app.specs.Words.{FileNamed}
 
 -- the number of a name's faults rose
 abbrev pub RoseAt : (List ℕ → ℕ) → (List ℕ → ℕ) → List ℕ → Type 0
 RoseAt before now name = Rose (before name) (now name)
 
--- the script was there and has no fault
-abbrev pub HasPassed : Files → List ℕ → Type 0
-HasPassed files name = IsSomeAnd (text_named files name) (λ text. script_fault_of (prefix_of script_limit text) ≡ None)
+-- the fault of a file that is judged before the next one is read; a record is judged as it is played
+abbrev pub fault_of_text : File → List ℕ → Option Fault
+fault_of_text Script text = script_fault_of (prefix_of script_limit text)
+fault_of_text Record text = None
 
--- a read of one of the two files failed, and the last line says which; the script, which comes first, had passed where it was the record
-abbrev pub IsReadFault : Option Files → Names → (List ℕ → ℕ) → (List ℕ → ℕ) → Option (List ℕ) → Option (List ℕ) → Type 0
-IsReadFault files names before now old new =
-    (RoseAt before now names.script_name × Appends old new (fault_line ReadScript))
-    ⊎ (RoseAt before now names.record_name × Appends old new (fault_line ReadRecord) × IfSome files (λ told. HasPassed told names.script_name))
+-- the file is there and has no fault
+abbrev pub HasPassed : Files → FileNamed → Type 0
+HasPassed told f = IsSomeAnd (text_named told f.name) (λ text. fault_of_text f.file text ≡ None)
 
--- a read of one of the two files failed
-abbrev pub AnyRose : Names → (List ℕ → ℕ) → (List ℕ → ℕ) → Type 0
-AnyRose names before now = RoseAt before now names.script_name ⊎ RoseAt before now names.record_name
+-- a read of this file failed, after all files before it had passed
+abbrev pub ReadFailed : Option Files → (List ℕ → ℕ) → (List ℕ → ℕ) → List FileNamed → File → Type 0
+ReadFailed files before now [] file = ⊥
+ReadFailed files before now (f ∷ fs) file =
+    ((f.file ≡ file) × RoseAt before now f.name)
+    ⊎ (IfSome files (λ told. HasPassed told f) × ReadFailed files before now fs file)
+
+-- a read of one of these files failed
+abbrev pub AnyRose : List FileNamed → (List ℕ → ℕ) → (List ℕ → ℕ) → Type 0
+AnyRose [] before now = ⊥
+AnyRose (f ∷ fs) before now = RoseAt before now f.name ⊎ AnyRose fs before now
+
+-- a name is none of these files'
+abbrev pub IsNoneOf : List FileNamed → List ℕ → Type 0
+IsNoneOf [] name = Unit {0}
+IsNoneOf (f ∷ fs) name = (name ≢ f.name) × IsNoneOf fs name
 
 -- each other name that is counted apart keeps its number
-abbrev pub OthersOfTwoStay : (List ℕ → Bool) → Names → (List ℕ → ℕ) → (List ℕ → ℕ) → Type 0
-OthersOfTwoStay apart names before now =
-    (other : List ℕ) → IsTrue (apart other) → other ≢ names.script_name → other ≢ names.record_name → now other ≡ before other
+abbrev pub OthersKeep : (List ℕ → Bool) → List FileNamed → (List ℕ → ℕ) → (List ℕ → ℕ) → Type 0
+OthersKeep apart fs before now =
+    (other : List ℕ) → IsTrue (apart other) → IsNoneOf fs other → now other ≡ before other

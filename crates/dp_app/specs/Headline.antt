@@ -5,20 +5,25 @@ use Rattle.dp_plant.specs.declared.plant.Plant.{Plant}
 use Rattle.dp_plant.specs.declared.voting.Ballot.TheVariants.{Fresh}
 use Rattle.dp_core.specs.Faulty.{AtMostOneFaulty}
 use Rattle.dp_core.specs.History.{history}
-use Rattle.dp_core.specs.Reference.{IsReferenceForce}
+use Rattle.dp_machine.specs.Reference.{force_of}
+use Rattle.dp_machine.specs.Run.{own_setpoints}
 use Rattle.dp_report.specs.Block.{BlockValue}
+use Rattle.dp_script.specs.declared.timed_act.TimedAct.{TimedAct}
 use Rattle.dp_app.specs.declared.fault.Fault.{Fault}
 use Rattle.dp_app.specs.Acting.{played}
 use Rattle.dp_app.specs.Blocks.{blocks}
 use Rattle.dp_app.specs.Outcome.{Play}
 
--- each fresh force in the block of cycle n is that of the reference run, one computer alone over the frames up to n
-abbrev pub FreshForcesAreReference : Plant → List Frame → List BlockValue → Type 0
-FreshForcesAreReference p fs bs = (n k : ℕ) (b : BlockValue) (f : ℤ) → slice_get bs n ≡ Some b → slice_get b.ballots k ≡ Some (Fresh f)
-    → IsReferenceForce p (take (n + 1) fs) k f
+-- each fresh force in the block of cycle n is that of the reference run, one computer alone over the frames up to n, where at most one
+-- computer is faulty in any cycle up to n
+abbrev pub FreshForcesAreReference : Plant → List TimedAct → List Frame → List BlockValue → Type 0
+FreshForcesAreReference p script fs bs = (n k : ℕ) (b : BlockValue) (f : ℤ)
+    → AtMostOneFaulty (history p (played p script (take (n + 1) fs) []))
+    → slice_get bs n ≡ Some b → slice_get b.ballots k ≡ Some (Fresh f)
+        → force_of p (own_setpoints p) (take (n + 1) fs) n k ≡ Some f
 
--- with at most one faulty computer in any cycle of what is played, each fresh force that is told is the reference run's
+-- of what is played, if anything is
 abbrev pub TellsReferenceForces : Result Play Fault → Type 0
-TellsReferenceForces (Ok x) = AtMostOneFaulty (history x.plant (played x.plant x.script x.frames []))
-    → FreshForcesAreReference x.plant x.frames (blocks x.plant x.script x.frames [])
+TellsReferenceForces (Ok x) = FreshForcesAreReference x.plant x.script x.frames
+    (blocks x.plant x.script x.frames [])
 TellsReferenceForces (Err fault) = Unit {0}

@@ -12,13 +12,15 @@ use Rattle.dp_frame.specs.Represents.{settings_of}
 use Rattle.dp_plant.specs.BuiltInPlant.{built_in_plant}
 use Rattle.dp_plant.specs.declared.frames.Frame.{Frame}
 use Rattle.dp_plant.specs.declared.plant.Plant.{Plant}
-use Rattle.dp_script.specs.declared.event.Event.{Event as Scripted}
+use Rattle.dp_script.specs.declared.timed_act.TimedAct.{TimedAct}
 use Rattle.dp_script.specs.declared.fault.ScriptFault.{ScriptFault}
 use Rattle.dp_script.specs.declared.fault.ScriptFault.TheVariants as script_fault
-use Rattle.dp_script.specs.Events.{events_by}
+use Rattle.dp_script.specs.TimedActs.{timed_acts_by}
 use Rattle.dp_script.specs.Faults.{fault_in}
 use Rattle.dp_app.specs.declared.fault.Fault.{Fault}
-use Rattle.dp_app.specs.declared.fault.Fault.TheVariants.{Usage, ReadScript, LongScript, BadScript, ReadRecord, LongRecord, BadRecord, LongCycles}
+use Rattle.dp_app.specs.declared.fault.Fault.TheVariants.{Usage, Read, Long, BadScript, BadRecord, LongCycles}
+use Rattle.dp_app.specs.declared.fault.File.{File}
+use Rattle.dp_app.specs.declared.fault.File.TheVariants.{Script, Record}
 use Rattle.dp_app.specs.declared.status.Status.{Status}
 use Rattle.dp_app.specs.declared.status.Status.TheVariants as status
 use Rattle.dp_app.specs.Blocks.{blocks, text_of}
@@ -34,7 +36,7 @@ pub record Outcome : Type 0 where
 -- what is played: on a plant, a script over the frames of a record, up to the fault that it has, if any
 pub record Play : Type 0 where
   pub plant : Plant
-  pub script : List Scripted
+  pub script : List TimedAct
   pub frames : List Frame
   pub fault : Option Fault
 
@@ -88,7 +90,7 @@ refused_by (refusal.TooMany line cycle) = LongCycles cycle
 -- the fault of a record: that of its first line that can't be taken, else that it goes on past its limit
 abbrev pub record_fault : Option Refusal → Bool → Option Fault
 record_fault (Some r) goes_on = Some (refused_by r)
-record_fault None true = Some LongRecord
+record_fault None true = Some (Long Record)
 record_fault None false = None
 
 -- the frames that are played: all of a record, or where it is refused those of the cycles before that of its last good line
@@ -96,20 +98,21 @@ abbrev pub frames_played : Settings → List (List ℕ) → Option Fault → Lis
 frames_played s lines fault = if is_some fault then frames_so_far s lines else record_frames s lines
 
 -- what a record plays on a plant
-unfoldable pub play_of : Plant → List Scripted → Prefix → Play
+unfoldable pub play_of : Plant → List TimedAct → Prefix → Play
 play_of p script f =
     let s = settings_of p in
     let fault = record_fault (first_refusal s (lines_of f)) f.goes_on in
-    record { plant = p; script = script; frames = frames_played s (lines_of f) fault; fault = fault }
+    record { plant = p; script = script; frames = frames_played s
+        (lines_of f) fault; fault = fault }
 
 -- the most bytes of a record, 2^36
 abbrev pub record_limit : ℕ
 record_limit = 68719476736
 
 -- by the record's text, or without one
-abbrev pub with_record : List Scripted → Option (List ℕ) → Result Play Fault
+abbrev pub with_record : List TimedAct → Option (List ℕ) → Result Play Fault
 with_record script (Some text) = Ok (play_of built_in_plant script (prefix_of record_limit text))
-with_record script None = Err ReadRecord
+with_record script None = Err (Read Record)
 
 -- ---- the script
 
@@ -120,11 +123,11 @@ line_fault None = None
 
 -- the fault of a script: its length comes before its lines
 unfoldable pub script_fault_of : Prefix → Option Fault
-script_fault_of f = if f.goes_on then Some LongScript else line_fault (fault_in f.text)
+script_fault_of f = if f.goes_on then Some (Long Script) else line_fault (fault_in f.text)
 
 -- a script's acts in order, each with its cycle
-abbrev pub script_of : Prefix → List Scripted
-script_of f = events_by (text_lines false f.text)
+abbrev pub script_of : Prefix → List TimedAct
+script_of f = timed_acts_by (text_lines false f.text)
 
 -- the most bytes of a script, 2^24
 abbrev pub script_limit : ℕ
@@ -136,37 +139,49 @@ refused_or None later = later
 
 -- by the script's text, or without one; the script comes before the record
 abbrev pub with_script : Option (List ℕ) → Option (List ℕ) → Result Play Fault
-with_script (Some text) record_text = refused_or (script_fault_of (prefix_of script_limit text)) (with_record (script_of (prefix_of script_limit text)) record_text)
-with_script None record_text = Err ReadScript
+with_script (Some text) record_text =
+    refused_or (script_fault_of (prefix_of script_limit text))
+        (with_record (script_of (prefix_of script_limit text)) record_text)
+with_script None record_text = Err (Read Script)
 
 -- ---- all of it
 
+-- the most bytes of a file
+abbrev pub limit_of : File → ℕ
+limit_of Script = script_limit
+limit_of Record = record_limit
+
+-- what the files of these names play, or the fault that they are refused with
+abbrev pub play_with : Files → Names → Result Play Fault
+play_with files names = with_script (text_named files names.script_name)
+    (text_named files names.record_name)
+
 abbrev pub with_names : Files → Option Names → Result Play Fault
-with_names files (Some names) = with_script (text_named files names.script_name) (text_named files names.record_name)
+with_names files (Some names) = play_with files names
 with_names files None = Err Usage
 
 -- what words and files play, or the fault that they are refused with
-abbrev pub asked : List (List ℕ) → Files → Result Play Fault
-asked words files = with_names files (names_in words)
+abbrev pub play_or_fault : List (List ℕ) → Files → Result Play Fault
+play_or_fault words files = with_names files (names_in words)
 
 -- the outcome of words and files
 abbrev pub outcome_of : List (List ℕ) → Files → Outcome
-outcome_of words files = ended (asked words files)
+outcome_of words files = ended (play_or_fault words files)
 
--- a status that is told by the words and files, whatever faults came
-abbrev pub IsPlain : Status → Type 0
-IsPlain status.Ok = Unit {0}
-IsPlain status.Usage = Unit {0}
-IsPlain status.BadPlant = Unit {0}
-IsPlain status.GainsRefused = Unit {0}
-IsPlain status.BadRecord = Unit {0}
-IsPlain status.BadScript = Unit {0}
-IsPlain status.TooLong = Unit {0}
-IsPlain status.ReadFault = ⊥
-IsPlain status.WriteFault = ⊥
-IsPlain status.Memory = ⊥
+-- a status that the words and files give, whatever faults came
+abbrev pub IsOfInputs : Status → Type 0
+IsOfInputs status.Ok = Unit {0}
+IsOfInputs status.Usage = Unit {0}
+IsOfInputs status.BadPlant = Unit {0}
+IsOfInputs status.GainsRefused = Unit {0}
+IsOfInputs status.BadRecord = Unit {0}
+IsOfInputs status.BadScript = Unit {0}
+IsOfInputs status.TooLong = Unit {0}
+IsOfInputs status.ReadFault = ⊥
+IsOfInputs status.WriteFault = ⊥
+IsOfInputs status.Memory = ⊥
 
 -- a fault that a record's lines or its length give
 abbrev pub IsOfRecord : Option Fault → Type 0
 IsOfRecord None = Unit {0}
-IsOfRecord (Some fault) = (fault_status fault ≢ status.ReadFault) × (fault_status fault ≢ status.Usage)
+IsOfRecord (Some fault) = IsOfInputs (fault_status fault) × (fault_status fault ≢ status.Usage)

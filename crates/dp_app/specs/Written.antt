@@ -1,12 +1,75 @@
--- What a run wrote, whatever its status.
-use Rattle.std.specs.Prelude.{◌⊎◌, ℕ, List, Option}
-use Rattle.dp_shell.specs.Taken.{TakesParts}
-use Rattle.dp_app.specs.declared.fault.Fault.TheVariants.{Memory, ReadRecord, ReadScript}
-use Rattle.dp_app.specs.FaultLines.{fault_line}
+-- What a run wrote, by its status.
+use Rattle.std.specs.Prelude.{◌≡◌, ◌⊎◌, ℕ, List, ◌++◌, Option}
+use Rattle.std.specs.Io.KnownBytes.{Appends}
+use Rattle.dp_shell.specs.Taken.{AppendsCut, CutInLine, EndsWithLine}
+use Rattle.dp_app.specs.declared.fault.Fault.{Fault}
+use Rattle.dp_app.specs.declared.fault.Fault.TheVariants.{Usage, Read, Long, BadScript, BadRecord, LongCycles, Memory}
+use Rattle.dp_app.specs.declared.fault.File.{File}
+use Rattle.dp_app.specs.declared.status.Status.{Status}
+use Rattle.dp_app.specs.declared.status.Status.TheVariants as status
+use Rattle.dp_app.specs.FaultLines.{fault_line, fault_status}
 
--- a prefix of the outcome's text, and then a prefix of the line of a fault that words and files don't tell
-abbrev pub TakesOutcome : Option (List ℕ) → Option (List ℕ) → List ℕ → Type 0
-TakesOutcome old new text =
-    TakesParts old new text (fault_line Memory)
-    ⊎ TakesParts old new text (fault_line ReadScript)
-    ⊎ TakesParts old new text (fault_line ReadRecord)
+-- a fault that words and files don't give may be told: a read of its file failed; want of memory needs no cause
+abbrev pub MayBeTold : (File → Type 0) → Fault → Type 0
+MayBeTold failed (Read file) = failed file
+MayBeTold failed Memory = Unit {0}
+MayBeTold failed Usage = ⊥
+MayBeTold failed (Long file) = ⊥
+MayBeTold failed (BadScript line kind) = ⊥
+MayBeTold failed (BadRecord line kind) = ⊥
+MayBeTold failed (LongCycles cycle) = ⊥
+
+-- the line of such a fault was being written, after a prefix of the text: a prefix of it was taken, and not all of it
+abbrev pub StopsInLine : (File → Type 0) → Option (List ℕ) → Option (List ℕ) → List ℕ → Type 0
+StopsInLine failed old new text =
+    (fault : Fault) × MayBeTold failed fault × CutInLine old new text (fault_line fault)
+
+-- a status of the words and files: all of the outcome's text. A failed read: its file's line alone. A failed write: the text was being
+-- written, or such a line. Want of memory: the same, or all of the line that says so
+abbrev pub HasWritten : (File → Type 0) → List ℕ → Status → Option (List ℕ) → Option (List ℕ)
+    → Type 0
+HasWritten failed text status.ReadFault old new =
+    (file : File) × failed file × Appends old new (fault_line (Read file))
+HasWritten failed text status.WriteFault old new =
+    AppendsCut old new text ⊎ StopsInLine failed old new text
+HasWritten failed text status.Memory old new =
+    AppendsCut old new text ⊎ StopsInLine failed old new text
+        ⊎ EndsWithLine old new text (fault_line Memory)
+HasWritten failed text status.Ok old new = Appends old new text
+HasWritten failed text status.Usage old new = Appends old new text
+HasWritten failed text status.BadPlant old new = Appends old new text
+HasWritten failed text status.GainsRefused old new = Appends old new text
+HasWritten failed text status.BadRecord old new = Appends old new text
+HasWritten failed text status.BadScript old new = Appends old new text
+HasWritten failed text status.TooLong old new = Appends old new text
+
+-- what was taken ends with the line of a fault of this status
+pub record EndsWithFault (s : Status) (old new : Option (List ℕ)) : Type 0 where
+  pub before : List ℕ
+  pub fault : Fault
+  pub is : fault_status fault ≡ s
+  pub taken : Appends old new (before ++ fault_line fault)
+
+-- each status but Ok, WriteFault and Memory is announced by a fault line, which comes last; Usage by `fault usage` alone
+abbrev pub IsAnnounced : Status → Option (List ℕ) → Option (List ℕ) → Type 0
+IsAnnounced status.Ok old new = Unit {0}
+IsAnnounced status.WriteFault old new = Unit {0}
+IsAnnounced status.Memory old new = Unit {0}
+IsAnnounced status.Usage old new = Appends old new (fault_line Usage)
+IsAnnounced status.ReadFault old new = EndsWithFault status.ReadFault old new
+IsAnnounced status.BadPlant old new = EndsWithFault status.BadPlant old new
+IsAnnounced status.GainsRefused old new = EndsWithFault status.GainsRefused old new
+IsAnnounced status.BadRecord old new = EndsWithFault status.BadRecord old new
+IsAnnounced status.BadScript old new = EndsWithFault status.BadScript old new
+IsAnnounced status.TooLong old new = EndsWithFault status.TooLong old new
+
+-- no read of a file failed
+abbrev pub NoReadFailed : File → Type 0
+NoReadFailed file = ⊥
+
+-- a line was written that goes with the status `told`, or the writing of it stopped
+abbrev pub LineEnds : Status → List ℕ → Option (List ℕ) → Option (List ℕ) → Status → Type 0
+LineEnds told line old new s =
+    ((s ≡ told) × Appends old new line)
+    ⊎ ((s ≡ status.WriteFault) × AppendsCut old new line)
+    ⊎ ((s ≡ status.Memory) × AppendsCut old new line)

@@ -3,30 +3,22 @@ ghost use Rattle.std.specs.Prelude.{◌≡◌, ◌<◌, ◌≤◌, List};
 ghost use Rattle.dp_core.specs.declared.event.Event.{Event};
 ghost use Rattle.dp_core.specs.Represents.{Represents};
 ghost use Rattle.dp_script.specs.Acts.{IsWithin};
-ghost use Rattle.dp_script.specs.Events.{acts_at};
+ghost use Rattle.dp_script.specs.TimedActs.{acts_at};
 ghost use Rattle.dp_app.specs.Acting.{acted, all_acted, ordered, voters};
 
-use dp_core::{Event, World};
+use dp_core::World;
 use dp_plant::{Place, Plant};
 use dp_script::{Act, Script};
 
-/// How many voters a plant has: one for each thruster.
-pub fn voters_of(plant: &Plant) -> u8
-    ensures value { result ≡ voters plant.now }
-    ensures few { result ≤ 12 }
-{
-    plant.thrusters.len() as u8
-}
-
-/// The orders of a computer go to all voters, in rising order.
-fn order_all(world: &mut World, plant: &Plant, c: u8)
-    requires computer { c < 3 }
-    requires plant { world.old.plant ≡ plant.now }
-    ensures represents { (es : List Event) → Represents es world.old → Represents (ordered c (voters plant.now) es) world.new }
+/// The script's acts of a cycle are done, one after another.
+pub fn perform_all(world: &mut World, plant: &Plant, script: &Script, cycle: u64)
+    requires { world.old.plant ≡ plant.now }
+    ensures represents { (es : List Event) → Represents es world.old
+        → Represents (all_acted plant.now cycle (acts_at cycle script.now) es) world.new }
     ensures plant { world.new.plant ≡ plant.now }
 {
-    for k in 0..voters_of(plant) {
-        world.apply(&Event::Order { from: c, voter: k });
+    for i in 0..script.len(cycle) {
+        perform(world, plant, cycle, script.act(cycle, i));
     }
 }
 
@@ -35,49 +27,52 @@ fn order_all(world: &mut World, plant: &Plant, c: u8)
 fn perform(world: &mut World, plant: &Plant, cycle: u64, act: Act)
     requires plant { world.old.plant ≡ plant.now }
     requires within { IsWithin act }
-    ensures represents { (es : List Event) → Represents es world.old → Represents (acted plant.now cycle act es) world.new }
+    ensures represents { (es : List Event) → Represents es world.old
+        → Represents (acted plant.now cycle act es) world.new }
     ensures plant { world.new.plant ≡ plant.now }
 {
     match act {
         Act::Run { c } => {
-            world.apply(&Event::Run { c });
+            world.run(c);
         }
         Act::Order { c, k } => {
             if k < voters_of(plant) {
-                world.apply(&Event::Order { from: c, voter: k });
+                world.order(c, k);
             }
         }
         Act::Orders { c } => order_all(world, plant, c),
         Act::Skew { c, at } => {
             let (north, east) = at;
-            world.apply(&Event::Skew {
-                c,
-                at: Place { north, east },
-            });
+            world.skew(c, Place { north, east });
         }
         Act::Say { c, k, force } => {
             if k < voters_of(plant) {
-                world.apply(&Event::Say {
-                    from: c,
-                    voter: k,
-                    cycle,
-                    force,
-                });
+                world.say(c, k, cycle, force);
             }
         }
         Act::Stop { c } => {
-            world.apply(&Event::Stop { c });
+            world.stop(c);
         }
     }
 }
 
-/// The script's acts of a cycle are done, one after another.
-pub fn perform_all(world: &mut World, plant: &Plant, script: &Script, cycle: u64)
-    requires { world.old.plant ≡ plant.now }
-    ensures represents { (es : List Event) → Represents es world.old → Represents (all_acted plant.now cycle (acts_at cycle script.now) es) world.new }
+/// The orders of a computer go to all voters, in rising order.
+fn order_all(world: &mut World, plant: &Plant, c: u8)
+    requires computer { c < 3 }
+    requires plant { world.old.plant ≡ plant.now }
+    ensures represents { (es : List Event) → Represents es world.old
+        → Represents (ordered c (voters plant.now) es) world.new }
     ensures plant { world.new.plant ≡ plant.now }
 {
-    for i in 0..script.len(cycle) {
-        perform(world, plant, cycle, script.act(cycle, i));
+    for k in 0..voters_of(plant) {
+        world.order(c, k);
     }
+}
+
+/// How many voters a plant has: one for each thruster.
+pub fn voters_of(plant: &Plant) -> u8
+    ensures value { result ≡ voters plant.now }
+    ensures few { result ≤ 12 }
+{
+    plant.thrusters.len() as u8
 }

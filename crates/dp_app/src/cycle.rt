@@ -1,11 +1,10 @@
 //! One cycle of the world: its frame, the script's acts, the votes, and what is told of it.
-ghost use Rattle.std.specs.Prelude.{◌≡◌, ◌<◌, ◌∷◌, [], List, length, map};
+ghost use Rattle.std.specs.Prelude.{◌≡◌, List, length, map};
 ghost use Rattle.std.specs.List.{range_with_len};
 ghost use Rattle.dp_core.specs.declared.event.Event.{Event};
-ghost use Rattle.dp_core.specs.declared.event.Event.TheVariants.{Vote};
 ghost use Rattle.dp_core.specs.History.{history};
 ghost use Rattle.dp_core.specs.Represents.{Represents};
-ghost use Rattle.dp_core.specs.Voting.{ballot, taken};
+ghost use Rattle.dp_core.specs.Voting.{ballot, taken_forces};
 ghost use Rattle.dp_plant.specs.FrameRanges.{IsFrameWithin};
 ghost use Rattle.dp_report.specs.Block.{block_text};
 ghost use Rattle.dp_app.specs.Acting.{cycled, voted, voters};
@@ -13,55 +12,10 @@ ghost use Rattle.dp_app.specs.Blocks.{block_of};
 
 use crate::acting::{perform_all, voters_of};
 use arrayvec::ArrayVec;
-use dp_core::{Event, Seen, World};
+use dp_core::World;
 use dp_plant::{Ballot, Frame, Plant};
 use dp_report::{Block, write_block};
 use dp_script::Script;
-
-/// The ballot of a voter in this cycle.
-fn vote(world: &mut World, plant: &Plant, k: u8) -> Ballot
-    requires voter { k < voters plant.now }
-    requires plant { world.old.plant ≡ plant.now }
-    ensures represents { (es : List Event) → Represents es world.old → Represents (Vote k ∷ es) world.new }
-    ensures ballot { (es : List Event) → Represents es world.old → result ≡ ballot k (history plant.now es) }
-    ensures plant { world.new.plant ≡ plant.now }
-{
-    match world.apply(&Event::Vote { voter: k }) {
-        Seen::Voted(ballot) => ballot,
-        // no other answer comes to a vote
-        _ => Ballot::Zero,
-    }
-}
-
-/// The ballots of all voters in this cycle.
-fn vote_all(world: &mut World, plant: &Plant) -> ArrayVec<Ballot, 12>
-    requires { world.old.plant ≡ plant.now }
-    ensures represents { (es : List Event) → Represents es world.old → Represents (voted (voters plant.now) es) world.new }
-    ensures ballots { (es : List Event) → Represents es world.old
-        → result.items ≡ map (λ k. ballot k (history plant.now (voted (voters plant.now) es))) (range_with_len 0 (voters plant.now)) }
-    ensures count { length result.items ≡ voters plant.now }
-    ensures plant { world.new.plant ≡ plant.now }
-{
-    let mut ballots = ArrayVec::new();
-    for k in 0..voters_of(plant) {
-        ballots.push(vote(world, plant, k));
-    }
-    ballots
-}
-
-/// The orders that all voters took in this cycle.
-fn held_all(world: &World, plant: &Plant) -> ArrayVec<[Option<i64>; 3], 12>
-    requires { world.now.plant ≡ plant.now }
-    ensures held { (es : List Event) → Represents es world.now → result.items
-        ≡ map (λ k. taken k 0 (history plant.now es) ∷ taken k 1 (history plant.now es) ∷ taken k 2 (history plant.now es) ∷ []) (range_with_len 0 (voters plant.now)) }
-    ensures count { length result.items ≡ voters plant.now }
-{
-    let mut orders = ArrayVec::new();
-    for k in 0..voters_of(plant) {
-        orders.push(world.held(k));
-    }
-    orders
-}
 
 /// A cycle: its frame is heard by all computers, the script's acts of it are done, each voter votes, and `into` holds its text.
 pub fn cycle(
@@ -71,15 +25,17 @@ pub fn cycle(
     frame: &Frame,
     into: &mut ArrayVec<u8, 4096>,
 )
-    requires next { frame.now.cycle ≡ world.old.heard }
+    requires next { frame.now.cycle ≡ world.old.cycles_begun }
     requires within { IsFrameWithin frame.now }
     requires plant { world.old.plant ≡ plant.now }
-    ensures represents { (es : List Event) → Represents es world.old → Represents (cycled plant.now script.now frame.now es) world.new }
+    ensures represents { (es : List Event) → Represents es world.old
+        → Represents (cycled plant.now script.now frame.now es) world.new }
     ensures block { (es : List Event) → Represents es world.old
-        → into.new.items ≡ block_text (block_of plant.now frame.now.cycle (cycled plant.now script.now frame.now es)) }
+        → into.new.items ≡ block_text (block_of plant.now frame.now.cycle
+            (cycled plant.now script.now frame.now es)) }
     ensures plant { world.new.plant ≡ plant.now }
 {
-    world.apply(&Event::Wire(*frame));
+    world.wire(frame);
     perform_all(world, plant, script, frame.cycle);
     let ballots = vote_all(world, plant);
     let block = Block {
@@ -89,4 +45,36 @@ pub fn cycle(
         held: held_all(world, plant),
     };
     write_block(&block, into);
+}
+
+/// The ballots of all voters in this cycle.
+fn vote_all(world: &mut World, plant: &Plant) -> ArrayVec<Ballot, 12>
+    requires { world.old.plant ≡ plant.now }
+    ensures represents { (es : List Event) → Represents es world.old
+        → Represents (voted (voters plant.now) es) world.new }
+    ensures ballots { (es : List Event) → Represents es world.old
+        → result.items ≡ map (λ k. ballot k (history plant.now (voted (voters plant.now) es)))
+            (range_with_len 0 (voters plant.now)) }
+    ensures count { length result.items ≡ voters plant.now }
+    ensures plant { world.new.plant ≡ plant.now }
+{
+    let mut ballots = ArrayVec::new();
+    for k in 0..voters_of(plant) {
+        ballots.push(world.vote(k));
+    }
+    ballots
+}
+
+/// The orders that all voters took in this cycle.
+fn held_all(world: &World, plant: &Plant) -> ArrayVec<[Option<i64>; 3], 12>
+    requires { world.now.plant ≡ plant.now }
+    ensures held { (es : List Event) → Represents es world.now → result.items
+        ≡ map (λ k. taken_forces k (history plant.now es)) (range_with_len 0 (voters plant.now)) }
+    ensures count { length result.items ≡ voters plant.now }
+{
+    let mut orders = ArrayVec::new();
+    for k in 0..voters_of(plant) {
+        orders.push(world.held(k));
+    }
+    orders
 }

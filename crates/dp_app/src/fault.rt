@@ -1,8 +1,7 @@
 //! Why a run is refused, and the line that says so.
-ghost use Rattle.std.specs.Prelude.{◌≡◌, ◌++◌, ◌≤◌, ◌+◌, length, codes};
+ghost use Rattle.std.specs.Prelude.{◌≡◌, ◌++◌, ◌≤◌, length, codes};
 ghost use Rattle.std.specs.Fmt.{decimal};
-ghost use Rattle.arrayvec.specs.ArrayVec.{array_vec_len};
-ghost use Rattle.dp_app.specs.FaultLines.{fault_line, fault_status, kind_word, line_kind_word, named_line};
+ghost use Rattle.dp_app.specs.FaultLines.{fault_line, fault_status, file_line, file_word, kind_word, line_kind_word, named_line};
 
 use crate::Status;
 use arrayvec::ArrayVec;
@@ -16,27 +15,124 @@ pub const LINE: usize = 128;
 /// Room for the longest word of a record line's fault.
 const WORD: usize = 48;
 
+/// A file that a command reads.
+#[derive(Clone, Copy, Debug, PartialEq, Eq)]
+pub enum File {
+    Script,
+    Record,
+}
+
 /// Why a run is refused.
 #[derive(Clone, Copy, Debug, PartialEq, Eq)]
 pub enum Fault {
     /// The words are no command.
     Usage,
-    /// The script can't be read.
-    ReadScript,
-    /// The script is longer than its limit.
-    LongScript,
+    /// A file can't be read.
+    Read { file: File },
+    /// A file is longer than its limit.
+    Long { file: File },
     /// The first faulty line of the script.
     BadScript { line: u64, kind: ScriptKind },
-    /// The record can't be read.
-    ReadRecord,
-    /// The record is longer than its limit.
-    LongRecord,
     /// The first faulty line of the record.
     BadRecord { line: u64, kind: LineFault },
     /// A line of the record, in which no earlier line is faulty, is of a cycle of 2^20 or more.
     LongCycles { cycle: u64 },
     /// Memory was wanted.
     Memory,
+}
+
+impl Fault {
+    /// Its line.
+    #[tactic(auto, unfolding(crate::specs::FaultLines::fault_line))]
+    pub fn line(&self) -> ArrayVec<u8, LINE>
+        ensures { result.items ≡ fault_line self.now }
+    {
+        match *self {
+            Fault::Usage => fixed_line(b"fault usage\n"),
+            Fault::Read { file } => file_line(b"read", file),
+            Fault::Long { file } => file_line(b"long", file),
+            Fault::BadScript { line, kind } => named_line(File::Script, line, kind_word(kind)),
+            Fault::BadRecord { line, kind } => {
+                named_line(File::Record, line, &line_kind_word(kind))
+            }
+            Fault::LongCycles { cycle } => long_cycles_line(cycle),
+            Fault::Memory => fixed_line(b"fault memory\n"),
+        }
+    }
+
+    /// The status that it announces.
+    pub fn status(&self) -> Status
+        ensures { result ≡ fault_status self.now }
+    {
+        match *self {
+            Fault::Usage => Status::Usage,
+            Fault::Read { .. } => Status::ReadFault,
+            Fault::Long { .. } | Fault::LongCycles { .. } => Status::TooLong,
+            Fault::BadScript { .. } => Status::BadScript,
+            Fault::BadRecord { .. } => Status::BadRecord,
+            Fault::Memory => Status::Memory,
+        }
+    }
+}
+
+/// A line that names nothing.
+fn fixed_line(text: &[u8]) -> ArrayVec<u8, LINE>
+    requires { length text.now ≤ 32 }
+    ensures { result.items ≡ text.now }
+{
+    let mut line = ArrayVec::new();
+    append(&mut line, text);
+    line
+}
+
+/// A line that names a file.
+fn file_line(what: &[u8], file: File) -> ArrayVec<u8, LINE>
+    requires { length what.now ≤ 32 }
+    ensures { result.items ≡ file_line what.now file }
+{
+    let mut line = ArrayVec::new();
+    append(&mut line, b"fault ");
+    append(&mut line, what);
+    append(&mut line, b" ");
+    append(&mut line, file_word(file));
+    append(&mut line, b"\n");
+    line
+}
+
+/// A line that names a line of a file.
+fn named_line(file: File, number: u64, kind: &[u8]) -> ArrayVec<u8, LINE>
+    requires { length kind.now ≤ 48 }
+    ensures { result.items ≡ named_line file number kind.now }
+{
+    let mut line = ArrayVec::new();
+    append(&mut line, b"fault ");
+    append(&mut line, file_word(file));
+    append(&mut line, b" ");
+    append_decimal(&mut line, number);
+    append(&mut line, b" ");
+    append(&mut line, kind);
+    append(&mut line, b"\n");
+    line
+}
+
+fn long_cycles_line(cycle: u64) -> ArrayVec<u8, LINE>
+    ensures { result.items ≡ codes "fault long cycles " ++ (decimal cycle ++ codes "\n") }
+{
+    let mut line = ArrayVec::new();
+    append(&mut line, b"fault long cycles ");
+    append_decimal(&mut line, cycle);
+    append(&mut line, b"\n");
+    line
+}
+
+fn file_word(file: File) -> &'static [u8]
+    ensures word { result.now ≡ file_word file }
+    ensures short { length result.now ≤ 6 }
+{
+    match file {
+        File::Script => b"script",
+        File::Record => b"record",
+    }
 }
 
 fn kind_word(kind: ScriptKind) -> &'static [u8]
@@ -71,75 +167,4 @@ fn line_kind_word(kind: LineFault) -> ArrayVec<u8, WORD>
         LineFault::UnknownWire => append(&mut word, b"unknown"),
     }
     word
-}
-
-fn long_cycles_line(cycle: u64) -> ArrayVec<u8, LINE>
-    ensures { result.items ≡ codes "fault long cycles " ++ (decimal cycle ++ codes "\n") }
-{
-    let mut line = ArrayVec::new();
-    append(&mut line, b"fault long cycles ");
-    append_decimal(&mut line, cycle);
-    append(&mut line, b"\n");
-    line
-}
-
-/// A line without a number.
-fn plain_line(text: &[u8]) -> ArrayVec<u8, LINE>
-    requires { length text.now ≤ 32 }
-    ensures { result.items ≡ text.now }
-{
-    let mut line = ArrayVec::new();
-    append(&mut line, text);
-    line
-}
-
-/// A line that names a line of a file.
-fn named_line(file: &[u8], number: u64, kind: &[u8]) -> ArrayVec<u8, LINE>
-    requires file { length file.now ≤ 6 }
-    requires kind { length kind.now ≤ 48 }
-    ensures { result.items ≡ named_line file.now number kind.now }
-{
-    let mut line = ArrayVec::new();
-    append(&mut line, b"fault ");
-    append(&mut line, file);
-    append(&mut line, b" ");
-    append_decimal(&mut line, number);
-    append(&mut line, b" ");
-    append(&mut line, kind);
-    append(&mut line, b"\n");
-    line
-}
-
-impl Fault {
-    /// Its line.
-    #[tactic(auto, unfolding(crate::specs::FaultLines::fault_line))]
-    pub fn line(&self) -> ArrayVec<u8, LINE>
-        ensures { result.items ≡ fault_line self.now }
-    {
-        match *self {
-            Fault::Usage => plain_line(b"fault usage\n"),
-            Fault::ReadScript => plain_line(b"fault read script\n"),
-            Fault::LongScript => plain_line(b"fault long script\n"),
-            Fault::BadScript { line, kind } => named_line(b"script", line, kind_word(kind)),
-            Fault::ReadRecord => plain_line(b"fault read record\n"),
-            Fault::LongRecord => plain_line(b"fault long record\n"),
-            Fault::BadRecord { line, kind } => named_line(b"record", line, &line_kind_word(kind)),
-            Fault::LongCycles { cycle } => long_cycles_line(cycle),
-            Fault::Memory => plain_line(b"fault memory\n"),
-        }
-    }
-
-    /// The status that it announces.
-    pub fn status(&self) -> Status
-        ensures { result ≡ fault_status self.now }
-    {
-        match *self {
-            Fault::Usage => Status::Usage,
-            Fault::ReadScript | Fault::ReadRecord => Status::ReadFault,
-            Fault::LongScript | Fault::LongRecord | Fault::LongCycles { .. } => Status::TooLong,
-            Fault::BadScript { .. } => Status::BadScript,
-            Fault::BadRecord { .. } => Status::BadRecord,
-            Fault::Memory => Status::Memory,
-        }
-    }
 }

@@ -1,30 +1,23 @@
 //! What a replay reads before its first cycle: the script, and the record whole.
-ghost use Rattle.std.specs.Prelude.{◌≡◌, ◌≢◌, ◌⊎◌, ◌≤◌, ◌^◌, [], IfErr, IfOk, IfSome, IsErrOf, IsNone, IsSomeAnd, None, Some, Ok, Err, length};
-ghost use Rattle.dp_shell.specs.Faults.{NoneFalls, OthersStay};
-ghost use Rattle.dp_shell.specs.Names.{texts_of};
-ghost use Rattle.dp_shell.specs.Texts.{text_named};
+ghost use Rattle.std.specs.Prelude.{◌≡◌, ◌≢◌, ◌⊎◌, ◌≤◌, [], Some, IfErr, IfOk, IfSome, IsErrOf, IsNone, IsSomeAnd, None, Ok, Err, length};
+ghost use Rattle.dp_shell.specs.{NoneFalls, OthersStay, texts_of, text_named};
 ghost use Rattle.dp_core.specs.Represents.{Represents};
 ghost use Rattle.dp_plant.specs.BuiltInPlant.{built_in_plant};
-ghost use Rattle.dp_app.specs.Causes.{HasPassed, OthersOfTwoStay, RoseAt};
-ghost use Rattle.dp_app.specs.FaultLines.{fault_status};
-ghost use Rattle.dp_app.specs.Prefixes.{prefix_read};
-ghost use Rattle.dp_app.specs.Outcome.{IsPlain, asked, prefix_of, play_of, record_limit, script_fault_of, script_limit, script_of};
-ghost use Rattle.dp_app.specs.Playing.{HasPlayed};
-ghost use Rattle.dp_app.specs.Readable.{IsReadable};
-ghost use Rattle.dp_app.specs.Words.{names_in};
-ghost use Rattle.dp_plant.specs.declared.plant.Plant.{Plant};
-ghost use Rattle.dp_script.specs.declared.event.Event.{Event as Scripted};
-ghost use Rattle.std.specs.Prelude.{List};
+ghost use Rattle.dp_plant.specs.SoundPlant.{IsSoundPlant};
+ghost use Rattle.dp_app.specs.declared.fault.File.{File as FileKind};
+ghost use Rattle.dp_app.specs.{HasPlayed, IsOfInputs, OthersKeep, ReadFailed, RoseAt, fault_status};
+ghost use Rattle.dp_app.specs.{files_of, files_read, limit_of, names_in, play_of, play_or_fault, play_with};
+ghost use Rattle.dp_app.specs.{prefix_of, prefix_read, script_fault_of, script_of, shown_names};
 
-use crate::fault::Fault;
+use crate::fault::{Fault, File};
 use crate::player::Player;
-use crate::words::names_in;
+use crate::words::{Names, names_in};
 use arrayvec::ArrayVec;
 use dp_core::World;
-use dp_core::built_in::built_in_plant_is_operable;
+use dp_core::built_in::built_in_plant_is_sound;
 use dp_plant::{Plant, p0};
 use dp_script::{Script, ScriptFault};
-use dp_shell::{ReadTrouble, Shelf, FilePart, read_whole};
+use dp_shell::{FilePart, ReadTrouble, Shelf, read_whole};
 use std::alloc::Global;
 
 /// The most bytes of a script.
@@ -36,64 +29,121 @@ const RECORD_LIMIT: usize = 1 << 36;
 /// All that a replay is given.
 #[derive(Drop)]
 pub struct Inputs {
-    pub plant: Plant,
     pub player: Player,
-    pub script: Script,
     pub record: FilePart,
+}
+
+/// Reads all that the words name, or says why it is refused.
+pub fn gather<F: Shelf>(alloc: Global, words: &[&str], shelf: &mut F) -> Result<Inputs, Fault>
+    ensures ok { IfOk result (λ i. IfSome (F.files shelf.old)
+        (λ files. play_or_fault (texts_of words.now) files
+        ≡ Ok (play_of i.player.plant i.player.script (prefix_read i.record)))) }
+    ensures sound { IfOk result (λ i. IsSoundPlant i.player.plant) }
+    ensures played { IfOk result (λ i. HasPlayed i.player.plant i.player.script i.player []) }
+    ensures size { IfOk result (λ i. length i.record.text.items ≤ limit_of File.Record) }
+
+    // A refusal that words and files give is theirs.
+    ensures err { IfErr result (λ fault. IsOfInputs (fault_status fault)
+        → IfSome (F.files shelf.old) (λ files. play_or_fault (texts_of words.now) files
+            ≡ Err fault)) }
+    ensures usage { IsErrOf result Fault.Usage → IsNone (names_in (texts_of words.now)) }
+    ensures no_command { IsNone (names_in (texts_of words.now)) → IsErrOf result Fault.Usage }
+
+    // A fault of reading comes only where it was counted under the file's name, after all before it had passed.
+    ensures read { (file : FileKind) → IsErrOf result (Fault.Read file)
+        → ReadFailed (F.files shelf.old)
+        (F.faults shelf.old) (F.faults shelf.new)
+            (files_read (names_in (texts_of words.now))) file }
+
+    ensures files { F.files shelf.new ≡ F.files shelf.old }
+    ensures others { OthersKeep (F.apart shelf.old) (files_read (names_in (texts_of words.now)))
+        (F.faults shelf.old) (F.faults shelf.new) }
+{
+    match names_in(words) {
+        Some(names) => gather_named(alloc, shelf, &names),
+        None => Err(Fault::Usage),
+    }
+}
+
+/// Reads the files of a replay, the script before the record.
+fn gather_named<F: Shelf>(alloc: Global, shelf: &mut F, names: &Names) -> Result<Inputs, Fault>
+    ensures ok { IfOk result (λ i. IfSome (F.files shelf.old)
+        (λ files. play_with files (shown_names names.now)
+        ≡ Ok (play_of i.player.plant i.player.script (prefix_read i.record)))) }
+    ensures sound { IfOk result (λ i. IsSoundPlant i.player.plant) }
+    ensures played { IfOk result (λ i. HasPlayed i.player.plant i.player.script i.player []) }
+    ensures size { IfOk result (λ i. length i.record.text.items ≤ limit_of File.Record) }
+    ensures err { IfErr result (λ fault. IsOfInputs (fault_status fault)
+        → IfSome (F.files shelf.old) (λ files. play_with files (shown_names names.now)
+            ≡ Err fault)) }
+    ensures command { IfErr result (λ fault. fault ≢ Fault.Usage) }
+    ensures read { (file : FileKind) → IsErrOf result (Fault.Read file)
+        → ReadFailed (F.files shelf.old)
+        (F.faults shelf.old) (F.faults shelf.new) (files_of (shown_names names.now)) file }
+    ensures files { F.files shelf.new ≡ F.files shelf.old }
+    ensures others { OthersKeep (F.apart shelf.old) (files_of (shown_names names.now))
+        (F.faults shelf.old) (F.faults shelf.new) }
+{
+    let text = read_part(alloc, shelf, File::Script, names.script)?;
+    let script = judge_script(alloc, &text)?;
+    let world = built_in_world(alloc)?;
+    let player = player_of(built_in(), script, world);
+    match read_part(alloc, shelf, File::Record, names.record) {
+        Ok(record) => Ok(Inputs { player, record }),
+        Err(fault) => Err(fault),
+    }
+}
+
+/// Reads a file up to its limit.
+fn read_part<F: Shelf>(alloc: Global, shelf: &mut F, file: File, name: &str) -> Result<FilePart, Fault>
+    ensures ok { IfOk result (λ part. IfSome (F.files shelf.old) (λ files.
+        IsSomeAnd (text_named files name.now)
+            (λ text. prefix_read part ≡ prefix_of (limit_of file) text))) }
+    ensures size { IfOk result (λ part. length part.text.items ≤ limit_of file) }
+    ensures err { IfErr result (λ fault. (fault ≡ Fault.Read file) ⊎ (fault ≡ Fault.Memory)) }
+    ensures failed { IsErrOf result (Fault.Read file)
+        → RoseAt (F.faults shelf.old) (F.faults shelf.new) name.now }
+    ensures files { F.files shelf.new ≡ F.files shelf.old }
+    ensures apart { F.apart shelf.new ≡ F.apart shelf.old }
+    ensures others { OthersStay (F.apart shelf.old) name.now (F.faults shelf.old)
+        (F.faults shelf.new) }
+    ensures none_falls { NoneFalls (F.faults shelf.old) (F.faults shelf.new) }
+{
+    match read_whole(alloc, shelf, name, limit_of(file)) {
+        Ok(part) => Ok(part),
+        Err(ReadTrouble::Failed) => Err(Fault::Read { file }),
+        Err(ReadTrouble::Memory) => Err(Fault::Memory),
+    }
+}
+
+/// The most bytes of a file.
+fn limit_of(file: File) -> usize
+    ensures { result ≡ limit_of file }
+{
+    match file {
+        File::Script => SCRIPT_LIMIT,
+        File::Record => RECORD_LIMIT,
+    }
 }
 
 /// The script of a text, unless its length or a line is refused.
 #[tactic(auto, unfolding(crate::specs::Outcome::script_fault_of))]
-fn judged_script(alloc: Global, file: &Whole) -> Result<Script, Fault>
-    ensures ok { IfOk result (λ script. (script_fault_of (prefix_read file.now) ≡ None) × (script ≡ script_of (prefix_read file.now))) }
-    ensures err { IfErr result (λ fault. fault ≢ Fault.Memory → script_fault_of (prefix_read file.now) ≡ Some fault) }
-    ensures told { IfErr result (λ fault. (fault ≢ Fault.Usage) × (fault ≢ Fault.ReadScript) × (fault ≢ Fault.ReadRecord)) }
+fn judge_script(alloc: Global, part: &FilePart) -> Result<Script, Fault>
+    ensures ok { IfOk result (λ script.
+        (script_fault_of (prefix_read part.now) ≡ None)
+            × (script ≡ script_of (prefix_read part.now))) }
+    ensures err { IfErr result (λ fault. fault ≢ Fault.Memory
+        → script_fault_of (prefix_read part.now) ≡ Some fault) }
+    ensures other { IfErr result (λ fault. (fault ≢ Fault.Usage)
+        × ((file : FileKind) → fault ≢ Fault.Read file)) }
 {
-    if file.is_cut {
-        return Err(Fault::LongScript);
+    if part.is_cut {
+        return Err(Fault::Long { file: File::Script });
     }
-    match Script::of(alloc, &file.text) {
+    match Script::of(alloc, &part.text) {
         Ok(script) => Ok(script),
         Err(ScriptFault::Line { line, kind }) => Err(Fault::BadScript { line, kind }),
         Err(ScriptFault::Memory) => Err(Fault::Memory),
-    }
-}
-
-/// Reads the script, and refuses it where its length or a line is refused.
-fn read_script<F: Shelf>(alloc: Global, shelf: &mut F, name: &str) -> Result<Script, Fault>
-    ensures ok { IfOk result (λ script. IfSome (F.files shelf.old) (λ files. IsSomeAnd (text_named files name.now) (λ text.
-        (script_fault_of (prefix_of script_limit text) ≡ None) × (script ≡ script_of (prefix_of script_limit text))))) }
-    ensures err { IfErr result (λ fault. IsPlain (fault_status fault) → IfSome (F.files shelf.old) (λ files. IsSomeAnd (text_named files name.now) (λ text.
-        script_fault_of (prefix_of script_limit text) ≡ Some fault))) }
-    ensures failed { IsErrOf result Fault.ReadScript → RoseAt (F.faults shelf.old) (F.faults shelf.new) name.now }
-    ensures other { IfErr result (λ fault. (fault ≢ Fault.Usage) × (fault ≢ Fault.ReadRecord)) }
-    ensures files { F.files shelf.new ≡ F.files shelf.old }
-    ensures apart { F.apart shelf.new ≡ F.apart shelf.old }
-    ensures others { OthersStay (F.apart shelf.old) name.now (F.faults shelf.old) (F.faults shelf.new) }
-    ensures none_falls { NoneFalls (F.faults shelf.old) (F.faults shelf.new) }
-{
-    match read_whole(alloc, shelf, name, SCRIPT_LIMIT) {
-        Ok(file) => judged_script(alloc, &file),
-        Err(ReadTrouble::Failed) => Err(Fault::ReadScript),
-        Err(ReadTrouble::Memory) => Err(Fault::Memory),
-    }
-}
-
-/// Reads the record up to its limit.
-fn read_record<F: Shelf>(alloc: Global, shelf: &mut F, name: &str) -> Result<FilePart, Fault>
-    ensures ok { IfOk result (λ file. IfSome (F.files shelf.old) (λ files. IsSomeAnd (text_named files name.now) (λ text. prefix_read file ≡ prefix_of record_limit text))) }
-    ensures size { IfOk result (λ file. length file.text.items ≤ 2 ^ 36) }
-    ensures failed { IsErrOf result Fault.ReadRecord → RoseAt (F.faults shelf.old) (F.faults shelf.new) name.now }
-    ensures other { IfErr result (λ fault. (fault ≡ Fault.ReadRecord) ⊎ (fault ≡ Fault.Memory)) }
-    ensures files { F.files shelf.new ≡ F.files shelf.old }
-    ensures apart { F.apart shelf.new ≡ F.apart shelf.old }
-    ensures others { OthersStay (F.apart shelf.old) name.now (F.faults shelf.old) (F.faults shelf.new) }
-    ensures none_falls { NoneFalls (F.faults shelf.old) (F.faults shelf.new) }
-{
-    match read_whole(alloc, shelf, name, RECORD_LIMIT) {
-        Ok(file) => Ok(file),
-        Err(ReadTrouble::Failed) => Err(Fault::ReadRecord),
-        Err(ReadTrouble::Memory) => Err(Fault::Memory),
     }
 }
 
@@ -103,61 +153,31 @@ fn built_in_world(alloc: Global) -> Result<World, Fault>
     ensures represents { IfOk result (λ world. Represents [] world) }
     ensures other { IfErr result (λ fault. fault ≡ Fault.Memory) }
 {
-    built_in_plant_is_operable();
+    built_in_plant_is_sound();
     World::new(alloc, &p0()).map_err(|_| Fault::Memory)
 }
 
-/// A world that hasn't played yet.
+/// A player that hasn't played yet.
 #[tactic(auto, using(crate::proofs::Plays::played_none))]
-fn player_of(world: World) -> Player
-    ensures { (p : Plant) (script : List Scripted) → world.plant ≡ p → Represents [] world → HasPlayed p script result [] }
+fn player_of(plant: Plant, script: Script, world: World) -> Player
+    ensures played { world.plant ≡ plant → Represents [] world → HasPlayed plant script result [] }
+    ensures plant { result.plant ≡ plant }
+    ensures script { result.script ≡ script }
 {
     Player {
+        plant,
+        script,
         world,
         count: 0,
         block: ArrayVec::new(),
     }
 }
 
-/// The built-in plant, whose record can be read.
-#[tactic(auto, unfolding(dp_plant::specs::BuiltInPlant::built_in_plant))]
+/// The built-in plant.
 fn built_in() -> Plant
     ensures value { result ≡ built_in_plant }
-    ensures readable { IsReadable result }
+    ensures sound { IsSoundPlant result }
 {
+    built_in_plant_is_sound();
     p0()
-}
-
-/// Reads all that a replay is given, the script before the record, or says why it is refused.
-pub fn gather<F: Shelf>(alloc: Global, words: &[&str], shelf: &mut F) -> Result<Inputs, Fault>
-    ensures ok { IfOk result (λ i. IfSome (F.files shelf.old) (λ files. asked (texts_of words.now) files ≡ Ok (play_of i.plant i.script (prefix_read i.record)))) }
-    ensures readable { IfOk result (λ i. IsReadable i.plant) }
-    ensures player { IfOk result (λ i. HasPlayed i.plant i.script i.player []) }
-    ensures size { IfOk result (λ i. length i.record.text.items ≤ 2 ^ 36) }
-
-    // A refusal that is told by words and files is theirs.
-    ensures err { IfErr result (λ fault. IsPlain (fault_status fault) → IfSome (F.files shelf.old) (λ files. asked (texts_of words.now) files ≡ Err fault)) }
-    ensures usage { IsErrOf result Fault.Usage → IsNone (names_in (texts_of words.now)) }
-    ensures no_command { IsNone (names_in (texts_of words.now)) → IsErrOf result Fault.Usage }
-
-    // A fault of reading comes only where it was counted under the file's name, and the record is read after a good script.
-    ensures script { IsErrOf result Fault.ReadScript → IsSomeAnd (names_in (texts_of words.now)) (λ names. RoseAt (F.faults shelf.old) (F.faults shelf.new) names.script_name) }
-    ensures record { IsErrOf result Fault.ReadRecord → IsSomeAnd (names_in (texts_of words.now)) (λ names.
-        RoseAt (F.faults shelf.old) (F.faults shelf.new) names.record_name × IfSome (F.files shelf.old) (λ files. HasPassed files names.script_name)) }
-
-    ensures files { F.files shelf.new ≡ F.files shelf.old }
-    ensures others { IfSome (names_in (texts_of words.now)) (λ names. OthersOfTwoStay (F.apart shelf.old) names (F.faults shelf.old) (F.faults shelf.new)) }
-{
-    let Some(names) = names_in(words) else {
-        return Err(Fault::Usage);
-    };
-    let script = read_script(alloc, shelf, names.script)?;
-    let world = built_in_world(alloc)?;
-    let record = read_record(alloc, shelf, names.record)?;
-    Ok(Inputs {
-        plant: built_in(),
-        player: player_of(world),
-        script,
-        record,
-    })
 }

@@ -6,9 +6,9 @@ ghost use Rattle.dp_app.specs.Outcome.{Play};
 
 use dp_core::laws::fresh_is_reference;
 
-/// With at most one faulty computer in any cycle of what is played, each fresh force that is told is the reference run's.
+/// Where at most one computer was faulty in any cycle so far, each fresh force that is told of a cycle is the reference run's.
 pub fn fresh_forces_are_reference()
-    ensures { (asked : Result Play Fault) → TellsReferenceForces asked }
+    ensures { (x : Result Play Fault) → TellsReferenceForces x }
 {
     fresh_is_reference();
 }

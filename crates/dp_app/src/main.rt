@@ -4,9 +4,15 @@
 //! All of it is [`run`], which is proved over whatever holds the files and takes the text; `main` makes the real ones and calls it.
 #![tactic(auto)]
 
+ghost use Rattle.std.specs.Prelude.{◌≡◌};
+ghost use Rattle.std.specs.Process.{exit_status};
+ghost use Rattle.dp_app.specs.Status.{code_of};
+
 mod acting;
 mod cycle;
+mod ending;
 mod fault;
+mod feeding;
 mod inputs;
 mod laws;
 mod player;
@@ -25,6 +31,20 @@ use std::alloc::{AllocError, Global};
 use std::process::ExitCode;
 use std::{env, io};
 
+fn main(rt: HostRuntime) -> ExitCode {
+    let words = match arguments(&rt) {
+        Ok(words) => words,
+        Err(e) if e.kind() == io::ErrorKind::OutOfMemory => return exit_code(Status::Memory),
+        Err(_) => return ExitCode::from(1),
+    };
+    let Ok(words) = texts(rt.alloc(), &words) else {
+        return exit_code(Status::Memory);
+    };
+    let mut shelf = FileShelf::new(&rt, &words);
+    let mut out = StdSink::new(&rt);
+    exit_code(run(rt.alloc(), &words, &mut shelf, &mut out))
+}
+
 /// The words after the program's name.
 fn arguments(rt: &HostRuntime) -> io::Result<Vec<String>> {
     let mut words = Vec::new(rt.alloc());
@@ -42,19 +62,9 @@ fn texts<'a>(alloc: Global, words: &'a [String]) -> Result<Vec<&'a str>, AllocEr
     Ok(texts)
 }
 
-fn main(rt: HostRuntime) -> ExitCode {
-    let words = match arguments(&rt) {
-        Ok(words) => words,
-        Err(e) if e.kind() == io::ErrorKind::OutOfMemory => return ExitCode::from(
-            Status::Memory.code(),
-        ),
-        Err(_) => return ExitCode::from(1),
-    };
-    let Ok(words) = texts(rt.alloc(), &words) else {
-        return ExitCode::from(Status::Memory.code());
-    };
-    let mut shelf = FileShelf::new(&rt, &words);
-    let mut out = StdSink::new(&rt);
-    let status = run(rt.alloc(), &words, &mut shelf, &mut out);
+/// What the process ends with.
+fn exit_code(status: Status) -> ExitCode
+    ensures { exit_status result ≡ code_of status }
+{
     ExitCode::from(status.code())
 }

@@ -185,15 +185,18 @@ fn words_are_told(rt: HostRuntime) -> Result<(), Fail> {
     Ok(())
 }
 
-/// Two cycles over a shelf and a sink that fail at the calls of these numbers.
+/// Two cycles.
+const TWO_CYCLES: &[u8] = b"0 pos0 L 1000 0\n1000 pos0 L 1000 0\n";
+
+/// A record over a shelf and a sink that fail at the calls of these numbers.
 fn with_failing(
     rt: &impl Abort,
     alloc: Global,
     read: u64,
     write: u64,
     script: &[u8],
+    record: &[u8],
 ) -> Result<String, Fail> {
-    let record = b"0 pos0 L 1000 0\n1000 pos0 L 1000 0\n";
     let files = files(alloc, record, script)?;
     assert!(rt; fits_shelf(&files));
     let mut shelf = MemoryShelf::new(files, vec![in alloc; read]?);
@@ -237,12 +240,28 @@ fn failures_are_told(rt: HostRuntime) -> Result<(), Fail> {
         (1, 2, "3~fault read script\n"),
     ];
     for (read, write, wanted) in rows {
-        let seen = with_failing(&rt, rt.alloc(), read, write, b"1 usual\n")?;
+        let seen = with_failing(&rt, rt.alloc(), read, write, b"1 usual\n", TWO_CYCLES)?;
         assert_eq!(rt; seen.as_str(), wanted, "read {read}, write {write}");
     }
     // an empty script is read once
-    let seen = with_failing(&rt, rt.alloc(), 2, 0, b"")?;
+    let seen = with_failing(&rt, rt.alloc(), 2, 0, b"", TWO_CYCLES)?;
     assert_eq!(rt; seen.as_str(), "3~fault read record\n");
+    Ok(())
+}
+
+/// Records that are read in many pieces: so many lines of one cycle.
+#[test]
+fn long_records_are_played(rt: HostRuntime) -> Result<(), Fail> {
+    let alloc = rt.alloc();
+    for lines in [5_000, 100_000] {
+        let mut record = Vec::new(alloc);
+        for _ in 0..lines {
+            record.extend_from_slice(b"0 pos0 L 1000 0\n")?;
+        }
+        let seen = with_failing(&rt, alloc, 0, 0, b"", &record)?;
+        let wanted = "0~cycle 0 LLL\nt0 F 0 0 0 0\nt1 F 0 0 0 0\nt2 F 0 0 0 0\nend 1\n";
+        assert_eq!(rt; seen.as_str(), wanted, "{lines} lines");
+    }
     Ok(())
 }
 

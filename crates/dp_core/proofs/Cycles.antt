@@ -1,16 +1,15 @@
 -- Cycles of control, one after another: one more frame, frames that come later, and how many were done.
-use Rattle.dp_core.specs.Step as step
-use Rattle.std.proofs.Common.{Bool, List, None, Option, Some, [], add-one, ap, arith, cond, drop, false, length, length-drop, refl, subst, suc, sym, take, true, zero, ℕ, ℤ, ◌++◌, ◌+◌, ◌<◌, ◌∙◌, ◌∷◌, ◌≡◌, ◌≤◌}
+use Rattle.std.proofs.Common.{Bool, List, None, Option, Some, [], add-one, ap, arith, cond, drop, false, length, length-drop, refl, subst, suc, sym, take, true, zero, ℕ, ◌++◌, ◌+◌, ◌<◌, ◌∙◌, ◌∷◌, ◌≡◌, ◌≤◌}
 use Rattle.std.proofs.lemmas.List.{drop-append-le, length-take-le, take-append-le}
 use Rattle.std.specs.Prelude.{slice_get}
-use Rattle.dp_core.specs.Issue.{IssueValue}
-use Rattle.dp_core.specs.Reference.{issue_over, reference_issue, reference_state}
-use Rattle.dp_core.specs.Step.{Stepped, first_state, is_within, plane_cycle, rest_in, step_of}
-use Rattle.dp_core.specs.Trajectory.{advanced, state_after, stepped_issue, stepped_over}
-use Rattle.dp_core.specs.declared.state.State.{State}
+use Rattle.dp_machine.specs.declared.issue.Issue.{Issue}
+use Rattle.dp_machine.specs.declared.state.State.{State}
+use Rattle.dp_machine.specs.Reference.{reference_issue, reference_state}
+use Rattle.dp_machine.specs.Run.{Setpoints, cycle_at, issue_after, issue_of, run_on, run_over, state_after}
+use Rattle.dp_machine.specs.Step.{Step, first_state, rest_in, step_at}
 use Rattle.dp_plant.specs.declared.frames.Frame.{Frame}
+use Rattle.dp_plant.specs.declared.limits.Setpoint.{Setpoint}
 use Rattle.dp_plant.specs.declared.place.Place.{Place}
-use Rattle.dp_plant.specs.declared.plane.PlaneState.{PlaneState}
 use Rattle.dp_plant.specs.declared.plant.Plant.{Plant}
 
 pub slice_get-below : {A : Type 0} (xs : List A) (n : ℕ) (x : A) → slice_get xs n ≡ Some x → n < length xs
@@ -47,115 +46,128 @@ unfolding rest_in
 rest-count s at = refl
 
 -- what one cycle gives, if it gives something: the issue of that cycle, and the state of the next
-pub record IsCycle (s : State) (t : Stepped) : Type 0 where
+pub record IsCycle (s : State) (t : Step) : Type 0 where
   pub cycle : t.issue.cycle ≡ s.count
   pub count : t.next.count ≡ s.count + 1
 
-cycle_by : (within : Bool) (s : State) (demand : List ℤ) (next : PlaneState) (t : Stepped) → cond within (Some (record { issue = step.issue_in s demand; next = record { count = s.count + 1; plane = next } })) None ≡ Some t → IsCycle s t
-cycle_by false s demand next t e = cc
-cycle_by true s demand next t e =
-    let r : Stepped = record { issue = step.issue_in s demand; next = record { count = s.count + 1; plane = next } } in
-    let same : r ≡ t = cc in
-    subst (IsCycle s) same (record { cycle = refl; count = refl })
+cycle-some : (s : State) (b : Bool) (r t : Step) → cond b (Some r) None ≡ Some t → r.issue.cycle ≡ s.count → r.next.count ≡ s.count + 1 → IsCycle s t
+cycle-some s false r t e i n = cc
+cycle-some s true r t e i n = (let same : r ≡ t = cc in subst (IsCycle s) same (record { cycle = i; count = n }))
 
-pub step-is_cycle : (p : Plant) (s : State) (f : Frame) (t : Stepped) → step_of p s f ≡ Some t → IsCycle s t
-unfolding step_of
-step-is_cycle p s f t e = cycle_by (is_within (plane_cycle p s f).next) s (plane_cycle p s f).demand (plane_cycle p s f).next t e
+pub step-is_cycle : (p : Plant) (at : Setpoint) (s : State) (f : Frame) (t : Step) → step_at p at s f ≡ Some t → IsCycle s t
+unfolding step_at
+step-is_cycle p at s f t e = cycle-some s _ _ t e refl refl
 
-pub after-count : (p : Plant) (s : State) (f : Frame) → (state_after s (step_of p s f)).count ≡ suc s.count
+pub after-count : (p : Plant) (at : Setpoint) (s : State) (f : Frame) → (state_after s (step_at p at s f)).count ≡ suc s.count
 unfolding state_after
-after-count p s f = by (step_of p s f) refl
+after-count p at s f = by (step_at p at s f) refl
   where
-    by : (o : Option Stepped) → step_of p s f ≡ o → (state_after s o).count ≡ suc s.count
+    by : (o : Option Step) → step_at p at s f ≡ o → (state_after s o).count ≡ suc s.count
     by None e = omega arith
-    by (Some t) e = let n = (step-is_cycle p s f t e).count in omega arith
+    by (Some t) e = let n = (step-is_cycle p at s f t e).count in omega arith
 
-stepped_issue-some : (o : Option Stepped) (x : IssueValue) → stepped_issue o ≡ Some x → (t : Stepped) × (o ≡ Some t) × (t.issue ≡ x)
-unfolding stepped_issue
-stepped_issue-some (Some t) x e = (t, refl, cc)
-stepped_issue-some None x e = cc
+issue_of-some : (o : Option Step) (x : Issue) → issue_of o ≡ Some x → (t : Step) × (o ≡ Some t) × (t.issue ≡ x)
+unfolding issue_of
+issue_of-some (Some t) x e = (t, refl, cc)
+issue_of-some None x e = cc
 
-pub issue-cycle : (p : Plant) (s : State) (f : Frame) (x : IssueValue) → stepped_issue (step_of p s f) ≡ Some x → x.cycle ≡ s.count
-issue-cycle p s f x e =
-    let t = stepped_issue-some (step_of p s f) x e in
-    ap (λ (y : IssueValue). y.cycle) (sym t.2) ∙ (step-is_cycle p s f t.0 t.1).cycle
+pub issue-cycle : (p : Plant) (at : Setpoint) (s : State) (f : Frame) (x : Issue) → issue_of (step_at p at s f) ≡ Some x → x.cycle ≡ s.count
+issue-cycle p at s f x e =
+    let t = issue_of-some (step_at p at s f) x e in
+    ap (λ (y : Issue). y.cycle) (sym t.2) ∙ (step-is_cycle p at s f t.0 t.1).cycle
 
 -- ---- cycle after cycle
 
-stepped_over-append : (p : Plant) (s : State) (xs ys : List Frame) → stepped_over p s (xs ++ ys) ≡ stepped_over p (stepped_over p s xs) ys
-unfolding stepped_over
-stepped_over-append p s [] ys = refl
-stepped_over-append p s (x ∷ xs) ys = stepped_over-append p (state_after s (step_of p s x)) xs ys
+module _ (p : Plant) (sets : Setpoints) where
+  run_over-append : (s : State) (xs ys : List Frame) → run_over p sets s (xs ++ ys) ≡ run_over p sets (run_over p sets s xs) ys
+  unfolding run_over
+  run_over-append s [] ys = refl
+  run_over-append s (x ∷ xs) ys = run_over-append (state_after s (cycle_at p sets s x)) xs ys
 
-pub advanced-step : (p : Plant) (fs : List Frame) (s : State) (n : ℕ) (f : Frame) → slice_get fs (s.count + n) ≡ Some f → advanced p fs s (n + 1) ≡ state_after (advanced p fs s n) (step_of p (advanced p fs s n) f)
-unfolding advanced stepped_over
-advanced-step p fs s n f e =
-    let g : slice_get (drop s.count fs) n ≡ Some f = slice_get-drop s.count fs n ∙ e in
-    rw (add-one, take-one_more n (drop s.count fs) f g) (stepped_over-append p s (take n (drop s.count fs)) (f ∷ []))
+  pub run_on-step : (fs : List Frame) (s : State) (n : ℕ) (f : Frame) → slice_get fs (s.count + n) ≡ Some f → run_on p sets fs s (n + 1) ≡ state_after (run_on p sets fs s n) (cycle_at p sets (run_on p sets fs s n) f)
+  unfolding run_on run_over
+  run_on-step fs s n f e =
+      let g : slice_get (drop s.count fs) n ≡ Some f = slice_get-drop s.count fs n ∙ e in
+      rw (add-one, take-one_more n (drop s.count fs) f g) (run_over-append s (take n (drop s.count fs)) (f ∷ []))
 
-pub advanced-grown : (p : Plant) (fs gs : List Frame) (s : State) (n : ℕ) → s.count + n ≤ length fs → advanced p (fs ++ gs) s n ≡ advanced p fs s n
-unfolding advanced
-advanced-grown p fs gs s n h =
-    let a : s.count ≤ length fs = omega arith in
-    let b : n ≤ length (drop s.count fs) = omega (arith, length-drop s.count fs) in
-    rw (drop-append-le, take-append-le)
+  pub run_on-grown : (fs gs : List Frame) (s : State) (n : ℕ) → s.count + n ≤ length fs → run_on p sets (fs ++ gs) s n ≡ run_on p sets fs s n
+  unfolding run_on
+  run_on-grown fs gs s n h =
+      let a : s.count ≤ length fs = omega arith in
+      let b : n ≤ length (drop s.count fs) = omega (arith, length-drop s.count fs) in
+      rw (drop-append-le, take-append-le)
 
-pub advanced-none : (p : Plant) (fs : List Frame) (s : State) → advanced p fs s 0 ≡ s
-unfolding advanced stepped_over
-advanced-none p fs s = refl
+  pub run_on-none : (fs : List Frame) (s : State) → run_on p sets fs s 0 ≡ s
+  unfolding run_on run_over
+  run_on-none fs s = refl
 
-stepped_over-count : (p : Plant) (s : State) (fs : List Frame) → (stepped_over p s fs).count ≡ s.count + length fs
-unfolding stepped_over
-stepped_over-count p s [] = omega arith
-stepped_over-count p s (f ∷ fs) =
-    let a = stepped_over-count p (state_after s (step_of p s f)) fs in
-    let b = after-count p s f in
-    omega arith
+  run_over-count : (s : State) (fs : List Frame) → (run_over p sets s fs).count ≡ s.count + length fs
+  unfolding run_over
+  run_over-count s [] = omega arith
+  run_over-count s (f ∷ fs) =
+      let a = run_over-count (state_after s (cycle_at p sets s f)) fs in
+      let b = after-count p (sets s.count) s f in
+      omega arith
 
-pub advanced-count : (p : Plant) (fs : List Frame) (s : State) (n : ℕ) → s.count + n ≤ length fs → (advanced p fs s n).count ≡ s.count + n
-unfolding advanced
-advanced-count p fs s n h =
-    let a = stepped_over-count p s (take n (drop s.count fs)) in
-    let c : length (take n (drop s.count fs)) ≡ n = length-take-le n (drop s.count fs) (omega (arith, length-drop s.count fs)) in
-    omega arith
+  pub run_on-count : (fs : List Frame) (s : State) (n : ℕ) → s.count + n ≤ length fs → (run_on p sets fs s n).count ≡ s.count + n
+  unfolding run_on
+  run_on-count fs s n h =
+      let a = run_over-count s (take n (drop s.count fs)) in
+      let c : length (take n (drop s.count fs)) ≡ n = length-take-le n (drop s.count fs) (omega (arith, length-drop s.count fs)) in
+      omega arith
 
-take-empty : {A : Type 0} (n k : ℕ) (xs : List A) → xs ≡ [] → take n (drop k xs) ≡ xs
-take-empty n k (x ∷ xs) e = cc
-take-empty zero zero [] e = refl
-take-empty zero (suc k) [] e = refl
-take-empty (suc n) zero [] e = refl
-take-empty (suc n) (suc k) [] e = refl
+  pub run_on-empty : (s : State) (n : ℕ) → run_on p sets [] s n ≡ s
+  unfolding run_on run_over
+  run_on-empty s n = rw (take-empty n s.count [] refl)
+    where
+      take-empty : {A : Type 0} (n k : ℕ) (xs : List A) → xs ≡ [] → take n (drop k xs) ≡ xs
+      take-empty n k (x ∷ xs) e = cc
+      take-empty zero zero [] e = refl
+      take-empty zero (suc k) [] e = refl
+      take-empty (suc n) zero [] e = refl
+      take-empty (suc n) (suc k) [] e = refl
 
-pub advanced-empty : (p : Plant) (s : State) (n : ℕ) → advanced p [] s n ≡ s
-unfolding advanced stepped_over
-advanced-empty p s n = rw (take-empty n s.count [] refl)
+  -- ---- the reference run
 
--- ---- the reference run
+  pub reference_state-grown : (fs gs : List Frame) (n : ℕ) → n ≤ length fs → reference_state p sets (take n (fs ++ gs)) ≡ reference_state p sets (take n fs)
+  reference_state-grown fs gs n h = rw (take-append-le)
 
-pub reference_state-grown : (p : Plant) (fs gs : List Frame) (n : ℕ) → n ≤ length fs → reference_state p (fs ++ gs) n ≡ reference_state p fs n
-unfolding reference_state
-reference_state-grown p fs gs n h = advanced-grown p fs gs (first_state p) n (let z = first-count p in omega arith)
+  pub reference_state-step : (fs : List Frame) (n : ℕ) (f : Frame) → slice_get fs n ≡ Some f
+      → reference_state p sets (take (n + 1) fs) ≡ state_after (reference_state p sets (take n fs)) (cycle_at p sets (reference_state p sets (take n fs)) f)
+  unfolding reference_state run_over
+  reference_state-step fs n f e = rw (add-one, take-one_more n fs f e) (run_over-append (first_state p) (take n fs) (f ∷ []))
 
-pub reference_state-step : (p : Plant) (fs : List Frame) (n : ℕ) (f : Frame) → slice_get fs n ≡ Some f → reference_state p fs (n + 1) ≡ state_after (reference_state p fs n) (step_of p (reference_state p fs n) f)
-unfolding reference_state
-reference_state-step p fs n f e =
-    let z : (first_state p).count + n ≡ n = (let y = first-count p in omega arith) in
-    advanced-step p fs (first_state p) n f (rw z e)
+  issue_after-at : (s : State) (fs : List Frame) (n : ℕ) (f : Frame) → slice_get fs n ≡ Some f → issue_after p sets s fs n ≡ issue_of (cycle_at p sets (run_over p sets s (take n fs)) f)
+  unfolding issue_after run_over
+  issue_after-at s [] n f e = cc
+  issue_after-at s (g ∷ fs) zero f e = (let same : g ≡ f = cc in ap (λ x. issue_of (cycle_at p sets s x)) same)
+  issue_after-at s (g ∷ fs) (suc n) f e = issue_after-at (state_after s (cycle_at p sets s g)) fs n f e
 
-issue_over-some : (p : Plant) (s : State) (o : Option Frame) (x : IssueValue) → issue_over p s o ≡ Some x → (f : Frame) × (o ≡ Some f) × (stepped_issue (step_of p s f) ≡ Some x)
-unfolding issue_over
-issue_over-some p s None x e = cc
-issue_over-some p s (Some f) x e = (f, refl, e)
+  issue_after-grown : (s : State) (fs gs : List Frame) (n : ℕ) (x : Issue) → issue_after p sets s fs n ≡ Some x → issue_after p sets s (fs ++ gs) n ≡ Some x
+  unfolding issue_after
+  issue_after-grown s [] gs n x e = cc
+  issue_after-grown s (f ∷ fs) gs zero x e = e
+  issue_after-grown s (f ∷ fs) gs (suc n) x e = issue_after-grown (state_after s (cycle_at p sets s f)) fs gs n x e
 
-pub reference_issue-grown : (p : Plant) (fs gs : List Frame) (n : ℕ) (x : IssueValue) → reference_issue p fs n ≡ Some x → reference_issue p (fs ++ gs) n ≡ Some x
-unfolding reference_issue issue_over
-reference_issue-grown p fs gs n x e =
-    let t = issue_over-some p (reference_state p fs n) (slice_get fs n) x e in
-    let b = slice_get-below fs n t.0 t.1 in
-    let g = slice_get-append fs gs n t.0 t.1 in
-    let r = reference_state-grown p fs gs n (omega arith) in
-    rw (g, r) t.2
+  -- it comes of a frame
+  issue_after-some : (s : State) (fs : List Frame) (n : ℕ) (x : Issue) → issue_after p sets s fs n ≡ Some x → (f : Frame) × (slice_get fs n ≡ Some f)
+  unfolding issue_after
+  issue_after-some s [] n x e = cc
+  issue_after-some s (f ∷ fs) zero x e = (f, refl)
+  issue_after-some s (f ∷ fs) (suc n) x e = issue_after-some (state_after s (cycle_at p sets s f)) fs n x e
 
-pub reference_issue-at : (p : Plant) (fs : List Frame) (n : ℕ) (f : Frame) → slice_get fs n ≡ Some f → reference_issue p fs n ≡ stepped_issue (step_of p (reference_state p fs n) f)
-unfolding reference_issue issue_over
-reference_issue-at p fs n f e = rw e
+  pub reference_issue-grown : (fs gs : List Frame) (n : ℕ) (x : Issue) → reference_issue p sets fs n ≡ Some x → reference_issue p sets (fs ++ gs) n ≡ Some x
+  unfolding reference_issue
+  reference_issue-grown fs gs n x e = issue_after-grown (first_state p) fs gs n x e
+
+  pub reference_issue-at : (fs : List Frame) (n : ℕ) (f : Frame) → slice_get fs n ≡ Some f → reference_issue p sets fs n ≡ issue_of (cycle_at p sets (reference_state p sets (take n fs)) f)
+  unfolding reference_issue reference_state
+  reference_issue-at fs n f e = issue_after-at (first_state p) fs n f e
+
+  -- an issue of the reference run is one of a step
+  pub reference_issue-step : (fs : List Frame) (n : ℕ) (x : Issue) → reference_issue p sets fs n ≡ Some x
+      → (s : State) × (f : Frame) × (issue_of (cycle_at p sets s f) ≡ Some x)
+  unfolding reference_issue
+  reference_issue-step fs n x e =
+      let t = issue_after-some (first_state p) fs n x e in
+      (run_over p sets (first_state p) (take n fs), t.0, sym (issue_after-at (first_state p) fs n t.0 t.1) ∙ e)

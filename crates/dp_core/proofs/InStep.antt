@@ -1,73 +1,71 @@
--- A computer that isn't off has heard all the frames.
-use Rattle.std.proofs.Common.{Bool, List, None, Option, Some, [], arith, eqb, false, if◌then◌else◌, inl, inr, length, map, refl, slice_set, subst, sym, true, ℕ, ◌++◌, ◌+◌, ◌∙◌, ◌∷◌, ◌≡◌}
+-- A computer that isn't off has the frames of all cycles.
+use Rattle.std.proofs.Common.{Bool, List, [], Option, Some, None, arith, cond, eqb, false, inl, inr, length, map, refl, slice_set, subst, true, ℕ, ◌+◌, ◌∷◌, ◌≡◌}
 use Rattle.std.specs.Prelude.{slice_get}
 use Rattle.dp_core.proofs.Lists.{map-at, set-at}
-use Rattle.dp_core.specs.Computing.{Computing, heard_frame, hears_in, last_16, ran, runs_in, runs_over, skewed, skews_in, stopped, went_on}
-use Rattle.dp_core.specs.Step.{Stepped, step_of}
+use Rattle.dp_machine.specs.Step.{Step, step_of}
+use Rattle.dp_machine.specs.declared.state.State.{State}
+use Rattle.dp_core.specs.ComputerState.{ComputerState, Control, InControl, SwitchedOff, ToAlign, after_run, after_skew, after_step, after_stop, after_wire, run_in, run_over_oldest, skew_in, wire_in, with_frame, with_overrun}
 use Rattle.dp_core.specs.WorldView.{IsInStep}
 use Rattle.dp_plant.specs.declared.frames.Frame.{Frame}
 use Rattle.dp_plant.specs.declared.place.Place.{Place}
-use Rattle.dp_plant.specs.declared.plant.Plant.{Plant}
-use Rattle.dp_plant.specs.declared.voting.Mode.{Mode}
-use Rattle.dp_plant.specs.declared.voting.Mode.TheVariants.{Aligning, Live, Off}
 
-hears_in-step : (n : ℕ) (x : Computing) (f : Frame) (m : Mode) → x.mode ≡ m → IsInStep n x → IsInStep (n + 1) (hears_in x f m)
-unfolding hears_in
-hears_in-step n x f Off e s = λ o. absurd (o e)
-hears_in-step n x f Aligning e s = λ o. (let t = s (λ q. (let u = sym e ∙ q in cc)) in omega arith)
-hears_in-step n x f Live e s = by (eqb (length x.waits) 16)
+wire_in-step : (n : ℕ) (x : ComputerState) (f : Frame) (c : Control) → x.control ≡ c → IsInStep n x → IsInStep (n + 1) (wire_in x f c)
+unfolding wire_in
+wire_in-step n x f SwitchedOff e s = λ o. absurd (o (rw e))
+wire_in-step n x f ToAlign e s = λ o. (let t = s (λ q. (let u = rw e at q in cc)) in omega arith)
+wire_in-step n x f (InControl state) e s = by (eqb (length x.waits) 16)
   where
-    by : (b : Bool) → IsInStep (n + 1) (if b then record x { mode = Aligning; waits = last_16 (x.waits ++ f ∷ []); next = x.next + 1; last = None } else record x { waits = x.waits ++ f ∷ []; next = x.next + 1 })
-    by true = λ o. (let t = s (λ q. (let u = sym e ∙ q in cc)) in omega arith)
-    by false = λ o. (let t = s (λ q. (let u = sym e ∙ q in cc)) in omega arith)
+    by : (b : Bool) → IsInStep (n + 1) (cond b (with_overrun x f) (with_frame x f))
+    by true = λ o. (let t = s (λ q. (let u = rw e at q in cc)) in omega arith)
+    by false = λ o. (let t = s (λ q. (let u = rw e at q in cc)) in omega arith)
 
-pub heard-in_step : (n : ℕ) (x : Computing) (f : Frame) → IsInStep n x → IsInStep (n + 1) (heard_frame x f)
-unfolding heard_frame
-heard-in_step n x f s = hears_in-step n x f x.mode refl s
+pub wire-in_step : (n : ℕ) (x : ComputerState) (f : Frame) → IsInStep n x → IsInStep (n + 1) (after_wire x f)
+unfolding after_wire
+wire-in_step n x f s = wire_in-step n x f x.control refl s
 
-went_on-in_step : (n : ℕ) (x : Computing) (fs : List Frame) (o : Option Stepped) → IsInStep n x → IsInStep n (went_on x fs o)
-unfolding went_on
-went_on-in_step n x fs (Some t) s = s
-went_on-in_step n x fs None s = λ o. absurd (o refl)
+after_step-in_step : (n : ℕ) (x : ComputerState) (fs : List Frame) (o : Option Step) → x.next ≡ n → IsInStep n (after_step x fs o)
+unfolding after_step
+after_step-in_step n x fs (Some t) s = λ _. s
+after_step-in_step n x fs None s = λ o. absurd (o refl)
 
-runs_over-in_step : (p : Plant) (n : ℕ) (x : Computing) (fs : List Frame) → IsInStep n x → IsInStep n (runs_over p x fs)
-unfolding runs_over
-runs_over-in_step p n x [] s = s
-runs_over-in_step p n x (f ∷ fs) s = went_on-in_step n x fs (step_of p x.state f) s
+oldest-in_step : (n : ℕ) (x : ComputerState) (state : State) (fs : List Frame) → x.next ≡ n → IsInStep n (run_over_oldest x state fs)
+unfolding run_over_oldest
+oldest-in_step n x state [] s = λ _. s
+oldest-in_step n x state (f ∷ fs) s = after_step-in_step n x fs (step_of x.plant state f) s
 
-runs_in-in_step : (p : Plant) (n : ℕ) (x : Computing) (m : Mode) → IsInStep n x → IsInStep n (runs_in p x m)
-unfolding runs_in
-runs_in-in_step p n x Live s = runs_over-in_step p n x x.waits s
-runs_in-in_step p n x Aligning s = s
-runs_in-in_step p n x Off s = s
+run_in-in_step : (n : ℕ) (x : ComputerState) (c : Control) → x.control ≡ c → IsInStep n x → IsInStep n (run_in x c)
+unfolding run_in
+run_in-in_step n x (InControl state) e s = oldest-in_step n x state x.waits (s (λ q. (let u = rw e at q in cc)))
+run_in-in_step n x ToAlign e s = s
+run_in-in_step n x SwitchedOff e s = s
 
-pub ran-in_step : (p : Plant) (n : ℕ) (x : Computing) → IsInStep n x → IsInStep n (ran p x)
-unfolding ran
-ran-in_step p n x s = runs_in-in_step p n x x.mode s
+pub run-in_step : (n : ℕ) (x : ComputerState) → IsInStep n x → IsInStep n (after_run x)
+unfolding after_run
+run-in_step n x s = run_in-in_step n x x.control refl s
 
-pub stopped-in_step : (n : ℕ) (x : Computing) → IsInStep n x → IsInStep n (stopped x)
-unfolding stopped
-stopped-in_step n x s = λ o. absurd (o refl)
+pub stop-in_step : (n : ℕ) (x : ComputerState) → IsInStep n x → IsInStep n (after_stop x)
+unfolding after_stop
+stop-in_step n x s = λ o. absurd (o refl)
 
-skews_in-in_step : (n : ℕ) (x : Computing) (at : Place) (m : Mode) → IsInStep n x → IsInStep n (skews_in x at m)
-unfolding skews_in
-skews_in-in_step n x at Live s = s
-skews_in-in_step n x at Aligning s = s
-skews_in-in_step n x at Off s = s
+skew_in-in_step : (n : ℕ) (x : ComputerState) (at : Place) (c : Control) → x.control ≡ c → IsInStep n x → IsInStep n (skew_in x at c)
+unfolding skew_in
+skew_in-in_step n x at (InControl state) e s = λ _. s (λ q. (let u = rw e at q in cc))
+skew_in-in_step n x at ToAlign e s = s
+skew_in-in_step n x at SwitchedOff e s = s
 
-pub skewed-in_step : (n : ℕ) (x : Computing) (at : Place) → IsInStep n x → IsInStep n (skewed x at)
-unfolding skewed
-skewed-in_step n x at s = skews_in-in_step n x at x.mode s
+pub skew-in_step : (n : ℕ) (x : ComputerState) (at : Place) → IsInStep n x → IsInStep n (after_skew x at)
+unfolding after_skew
+skew-in_step n x at s = skew_in-in_step n x at x.control refl s
 
 -- one of the computers changed, and stays in step
-pub one-in_step : (xs : List Computing) (n k : ℕ) (x y : Computing) → ((c : ℕ) (z : Computing) → slice_get xs c ≡ Some z → IsInStep n z) → slice_get xs k ≡ Some x → (IsInStep n x → IsInStep n y) → (c : ℕ) (z : Computing) → slice_get (slice_set xs k y) c ≡ Some z → IsInStep n z
+pub one-in_step : (xs : List ComputerState) (n k : ℕ) (x y : ComputerState) → ((c : ℕ) (z : ComputerState) → slice_get xs c ≡ Some z → IsInStep n z) → slice_get xs k ≡ Some x → (IsInStep n x → IsInStep n y) → (c : ℕ) (z : ComputerState) → slice_get (slice_set xs k y) c ≡ Some z → IsInStep n z
 one-in_step xs n k x y all at keeps c z e = elim (set-at xs k c y z e) [
   | inl u ↦ subst (IsInStep n) u.1 (keeps (all k x at))
   | inr u ↦ all c z u.1
 ]
 
--- all of them heard one more
-pub all-in_step : (xs : List Computing) (n : ℕ) (f : Frame) → ((c : ℕ) (z : Computing) → slice_get xs c ≡ Some z → IsInStep n z) → (c : ℕ) (z : Computing) → slice_get (map (λ x. heard_frame x f) xs) c ≡ Some z → IsInStep (n + 1) z
+-- all of them take one more frame
+pub all-in_step : (xs : List ComputerState) (n : ℕ) (f : Frame) → ((c : ℕ) (z : ComputerState) → slice_get xs c ≡ Some z → IsInStep n z) → (c : ℕ) (z : ComputerState) → slice_get (map (λ x. after_wire x f) xs) c ≡ Some z → IsInStep (n + 1) z
 all-in_step xs n f all c z e =
-    let t = map-at xs c (λ x. heard_frame x f) z e in
-    subst (IsInStep (n + 1)) t.is (heard-in_step n t.before f (all c t.before t.stood))
+    let t = map-at xs c (λ x. after_wire x f) z e in
+    subst (IsInStep (n + 1)) t.is (wire-in_step n t.before f (all c t.before t.stood))

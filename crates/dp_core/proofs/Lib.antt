@@ -1,5 +1,3 @@
-pub mod AskedLaws
-pub mod Steps
 pub mod Waits
 mod Searches
 mod Cycles
@@ -14,6 +12,9 @@ mod OwnForces
 mod Lists
 mod InStep
 mod Worlds
-mod Limits
 pub mod HistoryLemmas
 pub mod VoteLemmas
+mod Halts
+mod SoundPlants
+mod Limits
+mod BuiltIn

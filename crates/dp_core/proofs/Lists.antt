@@ -3,7 +3,7 @@ use Rattle.std.proofs.Common.{List, None, Option, Some, [], ap, arith, drop, get
 use Rattle.std.proofs.lemmas.List.Edits.{map_over_more}
 use Rattle.std.proofs.lemmas.Option.{slice_get_read}
 use Rattle.std.specs.Prelude.{slice_get}
-use Rattle.dp_core.specs.WorldState.{changed, put}
+use Rattle.dp_core.specs.WorldState.{change_at, put_at}
 use Rattle.dp_voter.specs.VoterState.{VoterState, begun}
 
 -- ---- in code
@@ -13,8 +13,8 @@ begun_more cycle xs ys i x y l inv r e =
     ap (set ys i) (e ∙ ap (λ (v : VoterState). begun v cycle) (sym r)) ∙ map_over_more (λ v. begun v cycle) xs ys i x l inv r
 
 -- the element at k was read, and its change was written
-pub changed-read : {A : Type 0} (items vs done : List A) (k : ℕ) (x y : A) (change : A → A) → items ≡ vs → k < length vs → x ≡ get_or items k x → y ≡ change (get_or items k x) → done ≡ set items k y → done ≡ changed vs k change
-changed-read items vs done k x y change e l r v a =
+pub changed-read : {A : Type 0} (items vs frames_done : List A) (k : ℕ) (x y : A) (change : A → A) → items ≡ vs → k < length vs → x ≡ get_or items k x → y ≡ change (get_or items k x) → frames_done ≡ set items k y → frames_done ≡ change_at vs k change
+changed-read items vs frames_done k x y change e l r v a =
     let at : slice_get vs k ≡ Some x = slice_get_read vs (length vs) k x refl l (r ∙ ap (λ ws. get_or ws k x) e) in
     let new : y ≡ change x = v ∙ ap change (sym r) in
     rw at (a ∙ (ap (λ ws. set ws k y) e ∙ ap (set vs k) new))
@@ -37,7 +37,7 @@ pub record IsChanged {A : Type 0} (xs : List A) (k : ℕ) (change : A → A) (y 
   pub stood : slice_get xs k ≡ Some before
   pub is : change before ≡ y
 
-put-at : {A : Type 0} (xs : List A) (k j : ℕ) (change : A → A) (y : A) (o : Option A) → slice_get xs k ≡ o → slice_get (put xs k change o) j ≡ Some y → ((j ≡ k) × IsChanged xs k change y) ⊎ ((j ≡ k → ⊥) × (slice_get xs j ≡ Some y))
+put-at : {A : Type 0} (xs : List A) (k j : ℕ) (change : A → A) (y : A) (o : Option A) → slice_get xs k ≡ o → slice_get (put_at xs k change o) j ≡ Some y → ((j ≡ k) × IsChanged xs k change y) ⊎ ((j ≡ k → ⊥) × (slice_get xs j ≡ Some y))
 put-at xs k j change y None n e = inr (λ q. none_there xs k j y q n e, e)
   where
     none_there : {A : Type 0} (xs : List A) (k j : ℕ) (y : A) → j ≡ k → slice_get xs k ≡ None → slice_get xs j ≡ Some y → ⊥
@@ -47,7 +47,7 @@ put-at xs k j change y (Some x) n e = elim (set-at xs k j (change x) y e) [
   | inr u ↦ inr u
 ]
 
-pub changed-at : {A : Type 0} (xs : List A) (k j : ℕ) (change : A → A) (y : A) → slice_get (changed xs k change) j ≡ Some y → ((j ≡ k) × IsChanged xs k change y) ⊎ ((j ≡ k → ⊥) × (slice_get xs j ≡ Some y))
+pub changed-at : {A : Type 0} (xs : List A) (k j : ℕ) (change : A → A) (y : A) → slice_get (change_at xs k change) j ≡ Some y → ((j ≡ k) × IsChanged xs k change y) ⊎ ((j ≡ k → ⊥) × (slice_get xs j ≡ Some y))
 changed-at xs k j change y e = put-at xs k j change y (slice_get xs k) refl e
 
 pub set-length : {A : Type 0} (xs : List A) (k : ℕ) (x : A) → length (slice_set xs k x) ≡ length xs
@@ -55,11 +55,11 @@ set-length [] k x = refl
 set-length (y ∷ ys) zero x = refl
 set-length (y ∷ ys) (suc k) x = (let t = set-length ys k x in omega arith)
 
-put-length : {A : Type 0} (xs : List A) (k : ℕ) (change : A → A) (o : Option A) → length (put xs k change o) ≡ length xs
+put-length : {A : Type 0} (xs : List A) (k : ℕ) (change : A → A) (o : Option A) → length (put_at xs k change o) ≡ length xs
 put-length xs k change None = refl
 put-length xs k change (Some x) = set-length xs k (change x)
 
-pub changed-length : {A : Type 0} (xs : List A) (k : ℕ) (change : A → A) → length (changed xs k change) ≡ length xs
+pub changed-length : {A : Type 0} (xs : List A) (k : ℕ) (change : A → A) → length (change_at xs k change) ≡ length xs
 changed-length xs k change = put-length xs k change (slice_get xs k)
 
 -- each element in turn
@@ -93,12 +93,12 @@ set-same [] k x e = refl
 set-same (y ∷ ys) zero x e = (let same : x ≡ y = cc in ap (λ z. z ∷ ys) same)
 set-same (y ∷ ys) (suc k) x e = ap (λ zs. y ∷ zs) (set-same ys k x e)
 
-put-same : {A : Type 0} (xs : List A) (k : ℕ) (o : Option A) → slice_get xs k ≡ o → put xs k (λ x. x) o ≡ xs
+put-same : {A : Type 0} (xs : List A) (k : ℕ) (o : Option A) → slice_get xs k ≡ o → put_at xs k (λ x. x) o ≡ xs
 put-same xs k None e = refl
 put-same xs k (Some x) e = set-same xs k x e
 
 -- a change to the same
-pub changed-same : {A : Type 0} (xs : List A) (k : ℕ) → changed xs k (λ x. x) ≡ xs
+pub changed-same : {A : Type 0} (xs : List A) (k : ℕ) → change_at xs k (λ x. x) ≡ xs
 changed-same xs k = put-same xs k (slice_get xs k) refl
 
 -- there is an element below the length

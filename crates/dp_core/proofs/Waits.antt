@@ -7,6 +7,7 @@ use Rattle.std.proofs.lemmas.List.{length-append, length-drop}
 use Rattle.circular_buffer.specs.Buffer.{Buffer, buffer, keep_last}
 use Rattle.dp_plant.specs.declared.frames.Frame.{Frame}
 use Rattle.dp_plant.specs.FrameRanges.{IsFrameWithin}
+use Rattle.circular_buffer.specs.Buffer.{keep_last}
 use Rattle.dp_core.specs.Inside.{AreFrames, IsWaiting}
 
 AreFrames-push : (n : ℕ) (fs : List Frame) (next : ℕ) (f : Frame) → AreFrames n fs next → f.cycle ≡ next → AreFrames n (fs ++ f ∷ []) (next + 1)

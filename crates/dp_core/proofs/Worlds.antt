@@ -1,27 +1,26 @@
 -- A world represents one more event.
-use Rattle.dp_core.specs.Computing as calls
 use Rattle.dp_core.specs.Mode as modes
 use Rattle.std.proofs.Common.{Bool, List, None, Option, Some, [], ap, arith, eqb, false, get_or, inl, inr, length, map, refl, subst, suc, sym, zero, ℕ, ℤ, ◌&&◌, ◌+◌, ◌<◌, ◌∙◌, ◌∷◌, ◌≡◌}
 use Rattle.std.proofs.lemmas.Bool.{and_left, and_right, ne_eqb}
-use Rattle.std.specs.Option.{option_map}
 use Rattle.std.specs.Prelude.{slice_get}
-use Rattle.dp_core.proofs.Computers.{IsNothing, computer-first, computer-heard, computer-kept, computer-ran, computer-skewed, computer-stopped, hearing-represents, order-nothing, run-other, running-represents, say-nothing, skew-other, skewing-represents, stop-other, vote-nothing, wire-heard}
+use Rattle.dp_core.proofs.Computers.{IsNothing, mode_of-control, computer-first, computer-wire, computer-kept, computer-run, computer-skew, computer-stop, wire_answer-represents, order-nothing, run-other, run_answer-represents, say-nothing, skew-other, skew_answer-represents, stop-other, vote-nothing, wire-cycles}
 use Rattle.dp_core.proofs.Lists.{below-get, changed-at, changed-length, changed-same, get-below, map-at, map-length, read-at, three-of}
 use Rattle.dp_core.proofs.Moments.{moment}
 use Rattle.dp_core.proofs.Trajectories.{frames-kept, within}
 use Rattle.dp_core.proofs.Voters.{IsNoVote, IsOrderOf-order, IsOrderOf-say, answer-represents, ballot-represents, fresh_is_last, voter-begun, voter-first, voter-kept, voter-ordered, voter-voted}
-use Rattle.dp_core.specs.Answers.{RanValue}
-use Rattle.dp_core.specs.Computing.{Computing, began, heard_frame, hearing, ran, running, skewing, stopped}
-use Rattle.dp_core.specs.History.{history, seen_of}
-use Rattle.dp_core.specs.Issue.{IssueValue}
-use Rattle.dp_core.specs.Mode.{frames, heard}
-use Rattle.dp_core.specs.Moment.{Moment, ballot_of, frame_of, is_order, is_vote, is_wire, saw_taken}
+use Rattle.dp_core.specs.ComputerState.{ComputerState, after_run, after_skew, after_stop, after_wire, first_computer, is_live, mode_of, run_answer, skew_answer, wire_answer}
+use Rattle.dp_core.specs.History.{answer_to_run, answers_to_wire, history, seen_of}
+use Rattle.dp_core.specs.Mode.{cycles_begun, frames}
+use Rattle.dp_core.specs.Moment.{Moment, ballot_at, frame_of, is_order, is_vote, is_wire, saw_taken}
 use Rattle.dp_core.specs.Represents.{ComputerRepresents, Represents, VoterRepresents}
-use Rattle.dp_core.specs.Seen.{SeenDone, SeenHeard, SeenRan, SeenSent, SeenSkewed, SeenValue, SeenVoted}
-use Rattle.dp_core.specs.Trajectory.{last_issue}
-use Rattle.dp_core.specs.Voting.{Said, answer_if, force, high_of, low_of, said_by, taken}
-use Rattle.dp_core.specs.WorldState.{IsAllowed, WorldState, after, after_order, changed, last_of, voter_of}
+use Rattle.dp_core.specs.Trajectory.{last_issue, trajectory}
+use Rattle.dp_core.specs.Voting.{Message, answer, answer_if, ballot, high_of, low_of, message_of, taken_forces}
+use Rattle.dp_core.specs.WorldState.{IsAllowed, WorldState, after, after_order, change_at, last_of, voter_of}
 use Rattle.dp_core.specs.WorldView.{IsInStep}
+use Rattle.dp_core.specs.declared.answers.Heard.{Heard}
+use Rattle.dp_core.specs.declared.answers.Ran.{Ran}
+use Rattle.dp_core.specs.declared.event.Seen.TheVariants.{Done as SeenDone, Heard as SeenHeard, Ran as SeenRan, Sent as SeenSent, Skewed as SeenSkewed, Voted as SeenVoted}
+use Rattle.dp_machine.specs.declared.issue.Issue.{Issue}
 use Rattle.dp_core.specs.declared.event.Event.{Event}
 use Rattle.dp_core.specs.declared.event.Event.TheVariants.{Order, Run, Say, Skew, Stop, Vote, Wire}
 use Rattle.dp_plant.specs.declared.frames.Frame.{Frame}
@@ -43,16 +42,13 @@ say-is x y from cycle g f r same e a = e ∙ (ap (ordered x from g) a ∙ ap (λ
 pub said-is : (x v : VoterState) (from cycle : ℕ) (g f : ℤ) (r : Took) → g ≡ f → r ≡ answer_of x from cycle g → x ≡ v → r ≡ answer_of v from cycle f
 said-is x v from cycle g f r same a e = a ∙ (ap (λ z. answer_of x from cycle z) same ∙ ap (λ y. answer_of y from cycle f) e)
 
-pub order-none : (now : WorldState) (a k : ℕ) → now ≡ record now { voters = changed now.voters k (after_order a None) }
-order-none now a k = ap (λ (vs : List VoterState). record now { voters = vs }) (sym (changed-same now.voters k))
-
 -- ---- one of the computers, or of the voters, changes
 
 module _ (es : List Event) (w : WorldState) (e : Event) (r : Represents es w) where
-  computers_changed : (k : ℕ) (change : Computing → Computing)
-      → ((x : Computing) → ComputerRepresents w.plant k (history w.plant es) x → ComputerRepresents w.plant k (moment w.plant (history w.plant es) e ∷ history w.plant es) (change x))
+  computers_changed : (k : ℕ) (change : ComputerState → ComputerState)
+      → ((x : ComputerState) → ComputerRepresents w.plant k (history w.plant es) x → ComputerRepresents w.plant k (moment w.plant (history w.plant es) e ∷ history w.plant es) (change x))
       → ((j : ℕ) → eqb k j ≡ false → IsNothing j (moment w.plant (history w.plant es) e))
-      → (c : ℕ) (x : Computing) → slice_get (changed w.computers k change) c ≡ Some x → ComputerRepresents w.plant c (moment w.plant (history w.plant es) e ∷ history w.plant es) x
+      → (c : ℕ) (x : ComputerState) → slice_get (change_at w.computers k change) c ≡ Some x → ComputerRepresents w.plant c (moment w.plant (history w.plant es) e ∷ history w.plant es) x
   computers_changed k change own others c x at =
       let h = history w.plant es in
       let m = moment w.plant h e in
@@ -63,13 +59,13 @@ module _ (es : List Event) (w : WorldState) (e : Event) (r : Represents es w) wh
         | inr u ↦ computer-kept w.plant c m h x (others c (ne_eqb k c (λ q. u.0 (sym q)))) (within w.plant es) (r.computers c x u.1)
       ]
 
-  computers_kept : ((j : ℕ) → IsNothing j (moment w.plant (history w.plant es) e)) → (c : ℕ) (x : Computing) → slice_get w.computers c ≡ Some x → ComputerRepresents w.plant c (moment w.plant (history w.plant es) e ∷ history w.plant es) x
+  computers_kept : ((j : ℕ) → IsNothing j (moment w.plant (history w.plant es) e)) → (c : ℕ) (x : ComputerState) → slice_get w.computers c ≡ Some x → ComputerRepresents w.plant c (moment w.plant (history w.plant es) e ∷ history w.plant es) x
   computers_kept all c x at = computer-kept w.plant c (moment w.plant (history w.plant es) e) (history w.plant es) x (all c) (within w.plant es) (r.computers c x at)
 
   voters_changed : (k : ℕ) (change : VoterState → VoterState)
       → ((v : VoterState) → VoterRepresents w.plant k (history w.plant es) v → VoterRepresents w.plant k (moment w.plant (history w.plant es) e ∷ history w.plant es) (change v))
       → ((j : ℕ) → (j ≡ k → ⊥) → IsNoVote j (moment w.plant (history w.plant es) e))
-      → (j : ℕ) (v : VoterState) → slice_get (changed w.voters k change) j ≡ Some v → VoterRepresents w.plant j (moment w.plant (history w.plant es) e ∷ history w.plant es) v
+      → (j : ℕ) (v : VoterState) → slice_get (change_at w.voters k change) j ≡ Some v → VoterRepresents w.plant j (moment w.plant (history w.plant es) e ∷ history w.plant es) v
   voters_changed k change own others j v at =
       let h = history w.plant es in
       let m = moment w.plant h e in
@@ -83,29 +79,29 @@ module _ (es : List Event) (w : WorldState) (e : Event) (r : Represents es w) wh
   voters_kept : ((j : ℕ) → IsNoVote j (moment w.plant (history w.plant es) e)) → (k : ℕ) (v : VoterState) → slice_get w.voters k ≡ Some v → VoterRepresents w.plant k (moment w.plant (history w.plant es) e ∷ history w.plant es) v
   voters_kept all k v at = voter-kept w.plant k (moment w.plant (history w.plant es) e) (history w.plant es) v (all k) (r.voters k v at)
 
-  cycles_kept : frame_of e ≡ [] → w.heard ≡ heard (moment w.plant (history w.plant es) e ∷ history w.plant es)
+  cycles_kept : frame_of e ≡ [] → w.cycles_begun ≡ cycles_begun (moment w.plant (history w.plant es) e ∷ history w.plant es)
   cycles_kept n = r.cycles ∙ ap length (sym (frames-kept (moment w.plant (history w.plant es) e) (history w.plant es) n))
 
 -- ---- what is nothing to a voter
 
 run-no_vote : (p : Plant) (c k : ℕ) (h : List Moment) → IsNoVote k (moment p h (Run c))
-unfolding is_wire frame_of is_order ballot_of is_vote
+unfolding is_wire frame_of is_order ballot_at is_vote
 run-no_vote p c k h = record { no_wire = refl; no_frame = refl; no_order = λ a. refl; no_ballot = refl }
 
 stop-no_vote : (p : Plant) (c k : ℕ) (h : List Moment) → IsNoVote k (moment p h (Stop c))
-unfolding is_wire frame_of is_order ballot_of is_vote
+unfolding is_wire frame_of is_order ballot_at is_vote
 stop-no_vote p c k h = record { no_wire = refl; no_frame = refl; no_order = λ a. refl; no_ballot = refl }
 
 skew-no_vote : (p : Plant) (c k : ℕ) (at : Place) (h : List Moment) → IsNoVote k (moment p h (Skew c at))
-unfolding is_wire frame_of is_order ballot_of is_vote
+unfolding is_wire frame_of is_order ballot_at is_vote
 skew-no_vote p c k at h = record { no_wire = refl; no_frame = refl; no_order = λ a. refl; no_ballot = refl }
 
 vote-of_another : (p : Plant) (k j : ℕ) (h : List Moment) → (j ≡ k → ⊥) → IsNoVote j (moment p h (Vote k))
-unfolding is_wire frame_of is_order ballot_of is_vote
+unfolding is_wire frame_of is_order ballot_at is_vote
 vote-of_another p k j h n = record { no_wire = refl; no_frame = refl; no_order = λ a. refl; no_ballot = (let e : eqb k j ≡ false = ne_eqb k j (λ q. n (sym q)) in rw e) }
 
 order-to_another : (p : Plant) (a k j : ℕ) (h : List Moment) → (j ≡ k → ⊥) → IsNoVote j (moment p h (Order a k))
-unfolding is_wire frame_of is_order ballot_of is_vote
+unfolding is_wire frame_of is_order ballot_at is_vote
 order-to_another p a k j h n = record {
   no_wire = refl;
   no_frame = refl;
@@ -114,7 +110,7 @@ order-to_another p a k j h n = record {
 }
 
 say-to_another : (p : Plant) (a k j n : ℕ) (f : ℤ) (h : List Moment) → (j ≡ k → ⊥) → IsNoVote j (moment p h (Say a k n f))
-unfolding is_wire frame_of is_order ballot_of is_vote
+unfolding is_wire frame_of is_order ballot_at is_vote
 say-to_another p a k j n f h ne = record {
   no_wire = refl;
   no_frame = refl;
@@ -122,9 +118,9 @@ say-to_another p a k j n f h ne = record {
   no_ballot = refl;
 }
 
--- an order of a computer that has no last issue
-order-of_none : (p : Plant) (a k : ℕ) (h : List Moment) → last_issue a h ≡ None → IsNoVote k (moment p h (Order a k))
-unfolding is_wire frame_of ballot_of is_vote seen_of said_by answer_if saw_taken
+-- an order of a computer that says nothing to the voter
+order-of_none : (p : Plant) (a k : ℕ) (h : List Moment) → message_of k (last_issue a h) ≡ None → IsNoVote k (moment p h (Order a k))
+unfolding is_wire frame_of ballot_at is_vote seen_of answer_if saw_taken
 order-of_none p a k h l = record {
   no_wire = refl;
   no_frame = refl;
@@ -132,10 +128,9 @@ order-of_none p a k h l = record {
   no_ballot = refl;
 }
 
-voter-sent : (p : Plant) (k a : ℕ) (h : List Moment) (o : Option IssueValue) (v : VoterState) → a < 3 → last_issue a h ≡ o → VoterRepresents p k h v → VoterRepresents p k (moment p h (Order a k) ∷ h) (after_order a (said_by k o) v)
-unfolding said_by
+voter-sent : (p : Plant) (k a : ℕ) (h : List Moment) (o : Option Message) (v : VoterState) → a < 3 → message_of k (last_issue a h) ≡ o → VoterRepresents p k h v → VoterRepresents p k (moment p h (Order a k) ∷ h) (after_order a o v)
 voter-sent p k a h None v a3 l s = voter-kept p k (moment p h (Order a k)) h v (order-of_none p a k h l) s
-voter-sent p k a h (Some x) v a3 l s = voter-ordered p k a h (Order a k) (record { cycle = x.cycle; force = force x k }) v a3 (IsOrderOf-order p k a h x l) s
+voter-sent p k a h (Some x) v a3 l s = voter-ordered p k a h (Order a k) x v a3 (IsOrderOf-order p k a h x l) s
 
 -- the last issue of a computer of three
 pub last-represents : (es : List Event) (w : WorldState) (a : ℕ) → a < 3 → Represents es w → last_of (slice_get w.computers a) ≡ last_issue a (history w.plant es)
@@ -165,15 +160,15 @@ wire-represents es w f r =
     let three = r.three in
     record {
       computers = λ c x e. (
-          let t = map-at w.computers c (λ x. heard_frame x f) x e in
+          let t = map-at w.computers c (λ x. after_wire x f) x e in
           let below = below-get w.computers c t.before t.stood in
-          subst (ComputerRepresents p c (m ∷ h)) t.is (computer-heard p c h f t.before (omega arith) (within p es) (r.computers c t.before t.stood)));
-      three = map-length w.computers (λ x. heard_frame x f) ∙ r.three;
+          subst (ComputerRepresents p c (m ∷ h)) t.is (computer-wire p c h f t.before (omega arith) (within p es) (r.computers c t.before t.stood)));
+      three = map-length w.computers (λ x. after_wire x f) ∙ r.three;
       voters = λ k v e. (
-          let t = map-at w.voters k (λ v. begun v w.heard) v e in
+          let t = map-at w.voters k (λ v. begun v w.cycles_begun) v e in
           subst (VoterRepresents p k (m ∷ h)) t.is (subst (λ n. VoterRepresents p k (m ∷ h) (begun t.before n)) (sym r.cycles) (voter-begun p k h f t.before (r.voters k t.before t.stood))));
-      thrusters = map-length w.voters (λ v. begun v w.heard) ∙ r.thrusters;
-      cycles = ap (λ n. n + 1) r.cycles ∙ sym (wire-heard p h f);
+      thrusters = map-length w.voters (λ v. begun v w.cycles_begun) ∙ r.thrusters;
+      cycles = ap (λ n. n + 1) r.cycles ∙ sym (wire-cycles p h f);
     }
 
 run-represents : (es : List Event) (w : WorldState) (c : ℕ) → Represents es w → Represents (Run c ∷ es) (after w (Run c))
@@ -182,8 +177,8 @@ run-represents es w c r =
     let p = w.plant in
     let h = history p es in
     record {
-      computers = computers_changed es w (Run c) r c (ran p) (λ x s. computer-ran p c h x (within p es) s) (λ j e. run-other p j c h e);
-      three = changed-length w.computers c (ran p) ∙ r.three;
+      computers = computers_changed es w (Run c) r c after_run (λ x s. computer-run p c h x (within p es) s) (λ j e. run-other p j c h e);
+      three = changed-length w.computers c after_run ∙ r.three;
       voters = voters_kept es w (Run c) r (λ k. run-no_vote p c k h);
       thrusters = r.thrusters;
       cycles = cycles_kept es w (Run c) r refl;
@@ -195,8 +190,8 @@ stop-represents es w c r =
     let p = w.plant in
     let h = history p es in
     record {
-      computers = computers_changed es w (Stop c) r c stopped (λ x s. computer-stopped p c h x s) (λ j e. stop-other p j c h e);
-      three = changed-length w.computers c stopped ∙ r.three;
+      computers = computers_changed es w (Stop c) r c after_stop (λ x s. computer-stop p c h x s) (λ j e. stop-other p j c h e);
+      three = changed-length w.computers c after_stop ∙ r.three;
       voters = voters_kept es w (Stop c) r (λ k. stop-no_vote p c k h);
       thrusters = r.thrusters;
       cycles = cycles_kept es w (Stop c) r refl;
@@ -208,8 +203,8 @@ skew-represents es w c at r =
     let p = w.plant in
     let h = history p es in
     record {
-      computers = computers_changed es w (Skew c at) r c (λ x. calls.skewed x at) (λ x s. computer-skewed p c at h x (within p es) s) (λ j e. skew-other p j c at h e);
-      three = changed-length w.computers c (λ x. calls.skewed x at) ∙ r.three;
+      computers = computers_changed es w (Skew c at) r c (λ x. after_skew x at) (λ x s. computer-skew p c at h x (within p es) s) (λ j e. skew-other p j c at h e);
+      three = changed-length w.computers c (λ x. after_skew x at) ∙ r.three;
       voters = voters_kept es w (Skew c at) r (λ k. skew-no_vote p c k at h);
       thrusters = r.thrusters;
       cycles = cycles_kept es w (Skew c at) r refl;
@@ -242,12 +237,12 @@ say-represents es w a k n f a3 r =
       cycles = cycles_kept es w (Say a k n f) r refl;
     }
 
-order-represents_by : (es : List Event) (w : WorldState) (a k : ℕ) (o : Option IssueValue) → a < 3 → last_issue a (history w.plant es) ≡ o → Represents es w → Represents (Order a k ∷ es) (record w { voters = changed w.voters k (after_order a (said_by k o)) })
+order-represents_by : (es : List Event) (w : WorldState) (a k : ℕ) (o : Option Message) → a < 3 → message_of k (last_issue a (history w.plant es)) ≡ o → Represents es w → Represents (Order a k ∷ es) (record w { voters = change_at w.voters k (after_order a o) })
 unfolding history frame_of
 order-represents_by es w a k o a3 l r =
     let p = w.plant in
     let h = history p es in
-    let change : VoterState → VoterState = after_order a (said_by k o) in
+    let change : VoterState → VoterState = after_order a o in
     record {
       computers = computers_kept es w (Order a k) r (λ c. order-nothing p c a k h);
       three = r.three;
@@ -260,7 +255,7 @@ pub after-represents : (es : List Event) (w : WorldState) (e : Event) → IsAllo
 unfolding after
 after-represents es w (Wire f) i r = wire-represents es w f r
 after-represents es w (Run c) i r = run-represents es w c r
-after-represents es w (Order a k) i r = order-represents_by es w a k (last_of (slice_get w.computers a)) i.0 (sym (last-represents es w a i.0 r)) r
+after-represents es w (Order a k) i r = order-represents_by es w a k (message_of k (last_of (slice_get w.computers a))) i.0 (ap (message_of k) (sym (last-represents es w a i.0 r))) r
 after-represents es w (Vote k) i r = vote-represents es w k r
 after-represents es w (Skew c at) i r = skew-represents es w c at r
 after-represents es w (Say a k n f) i r = say-represents es w a k n f i.0 r
@@ -276,80 +271,104 @@ voter-there es w k l r = get-below w.voters k (below-voters w w k refl r.thruste
 
 -- ---- what each event is answered
 
-pub heard-seen : (es : List Event) (w : WorldState) (f : Frame) → Represents es w → SeenHeard (map hearing w.computers) ≡ seen_of w.plant (history w.plant es) (Wire f)
-unfolding seen_of
-heard-seen es w f r =
+pub wire-answers : (es : List Event) (w : WorldState) → Represents es w → map wire_answer w.computers ≡ answers_to_wire w.plant (history w.plant es)
+wire-answers es w r =
     let p = w.plant in
     let h = history p es in
     let t = three-of w.computers r.three in
     let x = r.computers 0 t.first (ap (λ xs. slice_get xs 0) t.are) in
     let y = r.computers 1 t.second (ap (λ xs. slice_get xs 1) t.are) in
     let z = r.computers 2 t.third (ap (λ xs. slice_get xs 2) t.are) in
-    ap SeenHeard (ap (map hearing) t.are ∙ rw (hearing-represents p 0 h t.first x, hearing-represents p 1 h t.second y, hearing-represents p 2 h t.third z))
+    ap (map wire_answer) t.are ∙ rw (wire_answer-represents p 0 h t.first x, wire_answer-represents p 1 h t.second y, wire_answer-represents p 2 h t.third z)
 
-pub ran-seen : (es : List Event) (w : WorldState) (c : ℕ) (a : RanValue) → c < 3 → Represents es w → ((x : Computing) → slice_get w.computers c ≡ Some x → a ≡ running w.plant x) → SeenRan a ≡ seen_of w.plant (history w.plant es) (Run c)
-unfolding seen_of
-ran-seen es w c a c3 r is =
+pub run-answer : (es : List Event) (w : WorldState) (c : ℕ) (a : Ran) → c < 3 → Represents es w → ((x : ComputerState) → slice_get w.computers c ≡ Some x → a ≡ run_answer x) → a ≡ answer_to_run w.plant c (history w.plant es) (modes.mode c (history w.plant es))
+run-answer es w c a c3 r is =
     let three = r.three in
     let t = get-below w.computers c (omega arith) in
-    ap SeenRan (is t.0 t.1 ∙ running-represents w.plant c (history w.plant es) t.0 (r.computers c t.0 t.1))
+    is t.0 t.1 ∙ run_answer-represents w.plant c (history w.plant es) t.0 (r.computers c t.0 t.1)
 
-pub skewed-seen : (es : List Event) (w : WorldState) (c : ℕ) (at : Place) (a : Bool) → c < 3 → Represents es w → ((x : Computing) → slice_get w.computers c ≡ Some x → a ≡ skewing x) → SeenSkewed a ≡ seen_of w.plant (history w.plant es) (Skew c at)
-unfolding seen_of
-skewed-seen es w c at a c3 r is =
+pub skew-answer : (es : List Event) (w : WorldState) (c : ℕ) (a : Bool) → c < 3 → Represents es w → ((x : ComputerState) → slice_get w.computers c ≡ Some x → a ≡ skew_answer x) → a ≡ is_live (modes.mode c (history w.plant es))
+skew-answer es w c a c3 r is =
     let three = r.three in
     let t = get-below w.computers c (omega arith) in
-    ap SeenSkewed (is t.0 t.1 ∙ skewing-represents w.plant c (history w.plant es) t.0 (r.computers c t.0 t.1))
+    is t.0 t.1 ∙ skew_answer-represents w.plant c (history w.plant es) t.0 (r.computers c t.0 t.1)
 
-pub voted-seen : (es : List Event) (w : WorldState) (k : ℕ) (b : Ballot) → k < length w.plant.thrusters.items → Represents es w → ((v : VoterState) → slice_get w.voters k ≡ Some v → b ≡ voter_ballot v) → SeenVoted b ≡ seen_of w.plant (history w.plant es) (Vote k)
-unfolding seen_of
-voted-seen es w k b l r is =
+pub vote-answer : (es : List Event) (w : WorldState) (k : ℕ) (b : Ballot) → k < length w.plant.thrusters.items → Represents es w → ((v : VoterState) → slice_get w.voters k ≡ Some v → b ≡ voter_ballot v) → b ≡ ballot k (history w.plant es)
+vote-answer es w k b l r is =
     let t = voter-there es w k l r in
-    ap SeenVoted (is t.0 t.1 ∙ ballot-represents w.plant k (history w.plant es) t.0 (r.voters k t.0 t.1))
+    is t.0 t.1 ∙ ballot-represents w.plant k (history w.plant es) t.0 (r.voters k t.0 t.1)
 
-pub said-seen : (es : List Event) (w : WorldState) (a k n : ℕ) (f : ℤ) (o : Took) → a < 3 → k < length w.plant.thrusters.items → Represents es w → ((v : VoterState) → slice_get w.voters k ≡ Some v → o ≡ answer_of v a n f) → SeenSent (Some o) ≡ seen_of w.plant (history w.plant es) (Say a k n f)
-unfolding seen_of
-said-seen es w a k n f o a3 l r is =
+pub say-answer : (es : List Event) (w : WorldState) (a k n : ℕ) (g f : ℤ) (o : Took) → a < 3 → k < length w.plant.thrusters.items → g ≡ f → Represents es w → ((v : VoterState) → slice_get w.voters k ≡ Some v → o ≡ answer_of v a n g) → o ≡ answer w.plant k a (history w.plant es) (record { cycle = n; force = f })
+say-answer es w a k n g f o a3 l same r is =
     let t = voter-there es w k l r in
-    ap (λ q. SeenSent (Some q)) (is t.0 t.1 ∙ answer-represents w.plant k a (history w.plant es) (record { cycle = n; force = f }) t.0 a3 (r.voters k t.0 t.1))
+    is t.0 t.1 ∙ (answer-represents w.plant k a (history w.plant es) (record { cycle = n; force = g }) t.0 a3 (r.voters k t.0 t.1) ∙ ap (λ z. answer w.plant k a (history w.plant es) (record { cycle = n; force = z })) same)
 
-answers_if : (p : Plant) (k a : ℕ) (h : List Moment) (s : Option Said) (v : VoterState) → a < 3 → VoterRepresents p k h v → option_map (λ (s : Said). answer_of v a s.cycle s.force) s ≡ answer_if p k a h s
+-- of an order with a message, and of one without
+pub order-answer : (es : List Event) (w : WorldState) (a k n : ℕ) (g f : ℤ) (o : Took) → a < 3 → k < length w.plant.thrusters.items → g ≡ f → Some (record { cycle = n; force = f }) ≡ message_of k (last_of (slice_get w.computers a)) → Represents es w → ((v : VoterState) → slice_get w.voters k ≡ Some v → o ≡ answer_of v a n g) → Some o ≡ answer_if w.plant k a (history w.plant es) (message_of k (last_issue a (history w.plant es)))
 unfolding answer_if
-answers_if p k a h None v a3 r = refl
-answers_if p k a h (Some s) v a3 r = ap Some (answer-represents p k a h s v a3 r)
+order-answer es w a k n g f o a3 l same says r is =
+    ap Some (say-answer es w a k n g f o a3 l same r is) ∙ ap (answer_if w.plant k a (history w.plant es)) (says ∙ ap (message_of k) (last-represents es w a a3 r))
 
-pub ordered-seen : (es : List Event) (w : WorldState) (a k : ℕ) (o : Option Took) → a < 3 → k < length w.plant.thrusters.items → Represents es w → ((v : VoterState) → slice_get w.voters k ≡ Some v → o ≡ option_map (λ (s : Said). answer_of v a s.cycle s.force) (said_by k (last_of (slice_get w.computers a)))) → SeenSent o ≡ seen_of w.plant (history w.plant es) (Order a k)
-unfolding seen_of
-ordered-seen es w a k o a3 l r is =
-    let p = w.plant in
-    let h = history p es in
-    let t = voter-there es w k l r in
-    ap SeenSent (is t.0 t.1 ∙ (answers_if p k a h (said_by k (last_of (slice_get w.computers a))) t.0 a3 (r.voters k t.0 t.1) ∙ ap (λ i. answer_if p k a h (said_by k i)) (last-represents es w a a3 r)))
+pub order-none : (es : List Event) (w : WorldState) (a k : ℕ) → a < 3 → None ≡ message_of k (last_of (slice_get w.computers a)) → Represents es w → None ≡ answer_if w.plant k a (history w.plant es) (message_of k (last_issue a (history w.plant es)))
+unfolding answer_if
+order-none es w a k a3 says r = ap (answer_if w.plant k a (history w.plant es)) (says ∙ ap (message_of k) (last-represents es w a a3 r))
 
--- ---- an event that is one of a kind
+-- ---- a world after an event
 
-pub allowed : (now : WorldState) (e d : Event) → e ≡ d → IsAllowed now e → IsAllowed now d
-allowed now e d is a = subst (IsAllowed now) is a
+pub went-on : (es : List Event) (now new : WorldState) (d : Event) → new ≡ after now d → IsAllowed now d → Represents es now → Represents (d ∷ es) new
+went-on es now new d n a r = subst (Represents (d ∷ es)) (sym n) (after-represents es now d a r)
 
-pub applied : (es : List Event) (now new : WorldState) (e d : Event) → e ≡ d → new ≡ after now d → IsAllowed now e → Represents es now → Represents (e ∷ es) new
-applied es now new e d is n a r =
-    subst (λ q. Represents (q ∷ es) new) (sym is) (subst (Represents (d ∷ es)) (sym n) (after-represents es now d (allowed now e d is a) r))
+pub plant-kept : (now new : WorldState) (d : Event) → new ≡ after now d → new.plant ≡ now.plant
+plant-kept now new d n = ap (λ (w : WorldState). w.plant) n ∙ after-plant now d
 
-pub seen-as : (now : WorldState) (es : List Event) (e d : Event) (s : SeenValue) → e ≡ d → s ≡ seen_of now.plant (history now.plant es) d → s ≡ seen_of now.plant (history now.plant es) e
-seen-as now es e d s is q = q ∙ ap (seen_of now.plant (history now.plant es)) (sym is)
+pub wire-is : (w : WorldState) (f : Frame) (xs : List ComputerState) (vs : List VoterState) → xs ≡ map (λ x. after_wire x f) w.computers → vs ≡ map (λ v. begun v f.cycle) w.voters → f.cycle ≡ w.cycles_begun
+    → record { plant = w.plant; computers = xs; voters = vs; cycles_begun = w.cycles_begun + 1 } ≡ after w (Wire f)
+unfolding after
+wire-is w f xs vs ex ev ec =
+    let voters = ev ∙ ap (λ n. map (λ v. begun v n) w.voters) ec in
+    rw (ex, voters)
 
-pub applied-plant : (now new : WorldState) (d : Event) → new ≡ after now d → new.plant ≡ now.plant
-applied-plant now new d n = ap (λ (w : WorldState). w.plant) n ∙ after-plant now d
+pub order-unsaid : (now : WorldState) (a k : ℕ) → None ≡ message_of k (last_of (slice_get now.computers a)) → now ≡ after now (Order a k)
+unfolding after
+order-unsaid now a k says = ap (λ (vs : List VoterState). record now { voters = vs }) (sym (changed-same now.voters k)) ∙ ap (λ (o : Option Message). record now { voters = change_at now.voters k (after_order a o) }) says
 
-pub stopped-seen : (p : Plant) (h : List Moment) (c : ℕ) → SeenDone ≡ seen_of p h (Stop c)
-unfolding seen_of
-stopped-seen p h c = refl
+pub say-said : (now new : WorldState) (a k n : ℕ) (g f : ℤ) → g ≡ f → new ≡ after now (Say a k n g) → new ≡ after now (Say a k n f)
+say-said now new a k n g f same e = e ∙ ap (λ z. after now (Say a k n z)) same
 
-pub said-new : (now new : WorldState) (a k n : ℕ) (g f : ℤ) → g ≡ f → new ≡ after now (Say a k n g) → new ≡ after now (Say a k n f)
-said-new now new a k n g f same e = e ∙ ap (λ z. after now (Say a k n z)) same
+pub order-said : (now new : WorldState) (a k n : ℕ) (g f : ℤ) → g ≡ f → Some (record { cycle = n; force = f }) ≡ message_of k (last_of (slice_get now.computers a)) → new ≡ after now (Say a k n g) → new ≡ after now (Order a k)
+unfolding after
+order-said now new a k n g f same says e = say-said now new a k n g f same e ∙ ap (λ (o : Option Message). record now { voters = change_at now.voters k (after_order a o) }) says
 
-pub said-answer : (vs : List VoterState) (a k n : ℕ) (g f : ℤ) (o : Took) → g ≡ f → ((v : VoterState) → slice_get vs k ≡ Some v → o ≡ answer_of v a n g) → (v : VoterState) → slice_get vs k ≡ Some v → o ≡ answer_of v a n f
-said-answer vs a k n g f o same is v at = is v at ∙ ap (λ z. answer_of v a n z) same
+-- ---- what is seen of an event
+
+module _ (p : Plant) (h : List Moment) (e : Event) where
+  pub seen-wire : (f : Frame) (hs : List Heard) → hs ≡ answers_to_wire p h → e ≡ Wire f → SeenHeard hs ≡ seen_of p h e
+  unfolding seen_of
+  seen-wire f hs a is = rw is (ap SeenHeard a)
+
+  pub seen-run : (c : ℕ) (o : Ran) → o ≡ answer_to_run p c h (modes.mode c h) → e ≡ Run c → SeenRan o ≡ seen_of p h e
+  unfolding seen_of
+  seen-run c o a is = rw is (ap SeenRan a)
+
+  pub seen-order : (a k : ℕ) (o : Option Took) → o ≡ answer_if p k a h (message_of k (last_issue a h)) → e ≡ Order a k → SeenSent o ≡ seen_of p h e
+  unfolding seen_of
+  seen-order a k o q is = rw is (ap SeenSent q)
+
+  pub seen-vote : (k : ℕ) (b : Ballot) → b ≡ ballot k h → e ≡ Vote k → SeenVoted b ≡ seen_of p h e
+  unfolding seen_of
+  seen-vote k b q is = rw is (ap SeenVoted q)
+
+  pub seen-skew : (c : ℕ) (at : Place) (b : Bool) → b ≡ is_live (modes.mode c h) → e ≡ Skew c at → SeenSkewed b ≡ seen_of p h e
+  unfolding seen_of
+  seen-skew c at b q is = rw is (ap SeenSkewed q)
+
+  pub seen-say : (a k n : ℕ) (g f : ℤ) (o : Took) → o ≡ answer p k a h (record { cycle = n; force = g }) → g ≡ f → e ≡ Say a k n f → SeenSent (Some o) ≡ seen_of p h e
+  unfolding seen_of
+  seen-say a k n g f o q same is = rw is (ap (λ t. SeenSent (Some t)) (q ∙ ap (λ z. answer p k a h (record { cycle = n; force = z })) same))
+
+  pub seen-stop : (c : ℕ) → e ≡ Stop c → SeenDone ≡ seen_of p h e
+  unfolding seen_of
+  seen-stop c is = rw is
 
 -- ---- a new world
 
@@ -372,10 +391,10 @@ map-count : {A B : Type 0} (xs : List A) (f : A → B) → length (map f xs) ≡
 map-count [] f = refl
 map-count (x ∷ xs) f = (let t = map-count xs f in omega arith)
 
-pub new-represents : (p : Plant) (x y z : Computing) (vs : List VoterState) → x ≡ began p → y ≡ began p → z ≡ began p → vs ≡ map voter_of p.thrusters.items → Represents [] (record { plant = p; computers = x ∷ y ∷ z ∷ []; voters = vs; heard = 0 })
+pub new-represents : (p : Plant) (x y z : ComputerState) (vs : List VoterState) → x ≡ first_computer p → y ≡ first_computer p → z ≡ first_computer p → vs ≡ map voter_of p.thrusters.items → Represents [] (record { plant = p; computers = x ∷ y ∷ z ∷ []; voters = vs; cycles_begun = 0 })
 unfolding history frames
 new-represents p x y z vs ex ey ez ev = rw (ex, ey, ez, ev) (record {
-  computers = λ c x e. subst (ComputerRepresents p c []) (same-of_three (began p) x c e) (computer-first p c);
+  computers = λ c x e. subst (ComputerRepresents p c []) (same-of_three (first_computer p) x c e) (computer-first p c);
   three = refl;
   voters = λ k v e. (
       let t = map-get p.thrusters.items k voter_of v e in
@@ -384,11 +403,11 @@ new-represents p x y z vs ex ey ez ev = rw (ex, ey, ez, ev) (record {
   cycles = refl;
 })
 
-first-in_step : (p : Plant) → IsInStep 0 (began p)
-unfolding began
+first-in_step : (p : Plant) → IsInStep 0 (first_computer p)
+unfolding first_computer
 first-in_step p = λ o. refl
 
-pub new-in_step : (p : Plant) (x y z : Computing) → x ≡ began p → y ≡ began p → z ≡ began p → (c : ℕ) (a : Computing) → slice_get (x ∷ y ∷ z ∷ []) c ≡ Some a → IsInStep 0 a
+pub new-in_step : (p : Plant) (x y z : ComputerState) → x ≡ first_computer p → y ≡ first_computer p → z ≡ first_computer p → (c : ℕ) (a : ComputerState) → slice_get (x ∷ y ∷ z ∷ []) c ≡ Some a → IsInStep 0 a
 new-in_step p x y z ex ey ez zero a e = (let same : x ≡ a = cc in subst (IsInStep 0) (sym ex ∙ same) (first-in_step p))
 new-in_step p x y z ex ey ez (suc zero) a e = (let same : y ≡ a = cc in subst (IsInStep 0) (sym ey ∙ same) (first-in_step p))
 new-in_step p x y z ex ey ez (suc (suc zero)) a e = (let same : z ≡ a = cc in subst (IsInStep 0) (sym ez ∙ same) (first-in_step p))
@@ -397,21 +416,22 @@ new-in_step p x y z ex ey ez (suc (suc (suc c))) a e = cc
 pub new-length : (p : Plant) (vs : List VoterState) → vs ≡ map voter_of p.thrusters.items → length vs ≡ length p.thrusters.items
 new-length p vs e = ap length e ∙ map-count p.thrusters.items voter_of
 
-pub copied-represents : (q p : Plant) (x y z : Computing) (vs : List VoterState) → q ≡ p → x ≡ began p → y ≡ began p → z ≡ began p → vs ≡ map voter_of p.thrusters.items → Represents [] (record { plant = q; computers = x ∷ y ∷ z ∷ []; voters = vs; heard = 0 })
-copied-represents q p x y z vs e ex ey ez ev = subst (λ r. Represents [] (record { plant = r; computers = x ∷ y ∷ z ∷ []; voters = vs; heard = 0 })) (sym e) (new-represents p x y z vs ex ey ez ev)
+pub copied-represents : (q p : Plant) (x y z : ComputerState) (vs : List VoterState) → q ≡ p → x ≡ first_computer p → y ≡ first_computer p → z ≡ first_computer p → vs ≡ map voter_of p.thrusters.items → Represents [] (record { plant = q; computers = x ∷ y ∷ z ∷ []; voters = vs; cycles_begun = 0 })
+copied-represents q p x y z vs e ex ey ez ev = subst (λ r. Represents [] (record { plant = r; computers = x ∷ y ∷ z ∷ []; voters = vs; cycles_begun = 0 })) (sym e) (new-represents p x y z vs ex ey ez ev)
 
 -- ---- what the accessors show
 
 shown : {A : Type 0} (items vs : List A) (k : ℕ) (x : A) → items ≡ vs → k < length items → x ≡ get_or items k x → slice_get vs k ≡ Some x
 shown items vs k x e l r = subst (λ xs. slice_get xs k ≡ Some x) e (read-at items k x l r)
 
-pub mode-shown : (es : List Event) (w : WorldState) (items : List Computing) (c : ℕ) (x : Computing) (m : Mode) → items ≡ w.computers → c < length items → x ≡ get_or items c x → m ≡ (get_or items c x).mode → Represents es w → m ≡ modes.mode c (history w.plant es)
+pub mode-shown : (es : List Event) (w : WorldState) (items : List ComputerState) (c : ℕ) (x : ComputerState) (m : Mode) → items ≡ w.computers → c < length items → x ≡ get_or items c x → m ≡ mode_of (get_or items c x).control → Represents es w → m ≡ modes.mode c (history w.plant es)
 mode-shown es w items c x m e l r is rep =
-    is ∙ (ap (λ (y : Computing). y.mode) (sym r) ∙ (rep.computers c x (shown items w.computers c x e l r)).in_mode)
+    let h = history w.plant es in
+    is ∙ (ap (λ (y : ComputerState). mode_of y.control) (sym r) ∙ (ap mode_of (rep.computers c x (shown items w.computers c x e l r)).control ∙ mode_of-control (modes.mode c h) (trajectory w.plant c h)))
 
-pub issue-shown : (es : List Event) (w : WorldState) (items : List Computing) (c : ℕ) (x : Computing) (o : Option IssueValue) → items ≡ w.computers → c < length items → x ≡ get_or items c x → o ≡ (get_or items c x).last → Represents es w → o ≡ last_issue c (history w.plant es)
+pub issue-shown : (es : List Event) (w : WorldState) (items : List ComputerState) (c : ℕ) (x : ComputerState) (o : Option Issue) → items ≡ w.computers → c < length items → x ≡ get_or items c x → o ≡ (get_or items c x).last → Represents es w → o ≡ last_issue c (history w.plant es)
 issue-shown es w items c x o e l r is rep =
-    is ∙ (ap (λ (y : Computing). y.last) (sym r) ∙ (rep.computers c x (shown items w.computers c x e l r)).last)
+    is ∙ (ap (λ (y : ComputerState). y.last) (sym r) ∙ (rep.computers c x (shown items w.computers c x e l r)).last)
 
-pub held-shown : (es : List Event) (w : WorldState) (items : List VoterState) (k : ℕ) (v : VoterState) (os : List (Option ℤ)) → items ≡ w.voters → k < length items → v ≡ get_or items k v → os ≡ v.orders → Represents es w → os ≡ taken k 0 (history w.plant es) ∷ taken k 1 (history w.plant es) ∷ taken k 2 (history w.plant es) ∷ []
+pub held-shown : (es : List Event) (w : WorldState) (items : List VoterState) (k : ℕ) (v : VoterState) (os : List (Option ℤ)) → items ≡ w.voters → k < length items → v ≡ get_or items k v → os ≡ v.orders → Represents es w → os ≡ taken_forces k (history w.plant es)
 held-shown es w items k v os e l r is rep = is ∙ (rep.voters k v (shown items w.voters k v e l r)).orders

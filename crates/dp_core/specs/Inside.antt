@@ -1,24 +1,21 @@
 -- What the fields of a computer mean, and what holds of them.
 use Rattle.std.specs.Prelude.{◌≡◌, ℕ, suc, ◌+◌, ◌-◌, ◌^◌, ◌≤◌, List, [], ◌∷◌, length}
 use Rattle.std.specs.List.{AllByRecursion}
-use Rattle.std.specs.Option.{option_map}
 use Rattle.circular_buffer.specs.Buffer.{Buffer}
 use Rattle.dp_plant.specs.declared.frames.Frame.{Frame}
 use Rattle.dp_plant.specs.declared.voting.Mode.TheVariants.{Live}
-use Rattle.dp_plant.specs.Ranges.{IsPlaneWithin}
-use Rattle.dp_core.specs.declared.computer.Computer.TheInside.{Inside}
-use Rattle.dp_core.specs.Computing.{Computing}
 use Rattle.dp_plant.specs.FrameRanges.{IsFrameWithin}
-use Rattle.dp_core.specs.Issue.{issue_value}
+use Rattle.dp_core.specs.declared.computer.Computer.TheInside.{Inside}
+use Rattle.dp_core.specs.ComputerState.{ComputerState, control_in}
 
-abbrev pub computing : Inside → Computing
-computing c = record {
-  mode = c.mode;
-  state = c.state;
+abbrev pub computer_state : Inside → ComputerState
+computer_state c = record {
+  plant = c.machine.plant;
+  control = control_in c.mode c.machine.state;
   waits = c.waits.items;
   next = c.next;
-  last = option_map issue_value c.last;
-  steps = c.steps;
+  last = c.last;
+  steps = c.machine.steps;
 }
 
 -- the frames are those from the first number up to but not including the last
@@ -36,6 +33,5 @@ pub record IsWaiting (b : Buffer Frame) (next : ℕ) : Type 0 where
 
 pub record IsComputer (c : Inside) : Type 0 where
   pub waiting : IsWaiting c.waits c.next
-  pub plane : IsPlaneWithin c.state.plane
-  pub live : c.mode ≡ Live → c.state.count + length c.waits.items ≡ c.next
+  pub live : c.mode ≡ Live → c.machine.state.count + length c.waits.items ≡ c.next
   pub bounded : c.next ≤ 2 ^ 20

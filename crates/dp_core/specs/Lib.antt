@@ -1,22 +1,21 @@
-pub mod Issue
-pub mod Answers
-pub mod Fusion
-pub mod Step
-pub mod Runnable
-pub mod Computing
+pub mod ComputerState
 pub mod Inside
-pub mod Along
-pub mod Seen
 pub mod Moment
 pub mod Mode
 pub mod Trajectory
 pub mod Voting
 pub mod History
-pub mod Reference
 pub mod Faulty
 pub mod OwnForce
 pub mod WorldState
 pub mod WorldView
-pub mod Operable
+pub mod CanGiveDemand
 pub mod Laws
 pub mod Represents
+pub use Rattle.dp_core.specs.Faulty.{AtMostOneFaulty}
+pub use Rattle.dp_core.specs.History.{answer_to_run, answers_to_wire, history, seen_of}
+pub use Rattle.dp_core.specs.Laws.{FreshIsReference, SkewedIsFaulty, TakenIsOwn, TrajectoriesAreReference, TwoHeardAreFresh}
+pub use Rattle.dp_core.specs.Mode.{cycles_begun, frames, mode}
+pub use Rattle.dp_core.specs.Trajectory.{last_issue}
+pub use Rattle.dp_core.specs.Voting.{answer, answer_if, ballot, given_ballot, message_of, taken_force, taken_forces}
+pub use Rattle.dp_core.specs.WorldState.{IsAllowed, after}

@@ -1,5 +1,5 @@
 -- The frames that came, and a computer's mode: searches of a list of moments, the newest first.
-use Rattle.std.specs.Prelude.{ℕ, Bool, false, ◌||◌, List, [], ◌∷◌, ◌++◌, length, if◌then◌else◌}
+use Rattle.std.specs.Prelude.{ℕ, List, [], ◌∷◌, ◌++◌, length, if◌then◌else◌}
 use Rattle.dp_plant.specs.declared.frames.Frame.{Frame}
 use Rattle.dp_plant.specs.declared.voting.Mode.{Mode}
 use Rattle.dp_plant.specs.declared.voting.Mode.TheVariants.{Live, Aligning, Off}
@@ -10,9 +10,8 @@ unfoldable pub frames : List Moment → List Frame
 frames [] = []
 frames (m ∷ h) = frames h ++ frame_of m.event
 
--- how many cycles have begun
-abbrev pub heard : List Moment → ℕ
-heard h = length (frames h)
+abbrev pub cycles_begun : List Moment → ℕ
+cycles_begun h = length (frames h)
 
 -- the moments up to the last break of c, with it; none if there is none
 unfoldable pub at_break : ℕ → List Moment → List Moment
@@ -24,11 +23,7 @@ unfoldable pub since_break : ℕ → List Moment → List Moment
 since_break c [] = []
 since_break c (m ∷ h) = if is_break c m then [] else m ∷ since_break c h
 
-unfoldable pub any_of : (Moment → Bool) → List Moment → Bool
-any_of p [] = false
-any_of p (m ∷ h) = p m || any_of p h
-
--- by the last break, if there is one
+-- by the last break, if there is one: off after an end, aligning after an interruption
 unfoldable pub broken_mode : ℕ → List Moment → Mode
 broken_mode c [] = Live
 broken_mode c (m ∷ h) = if is_end c m then Off else Aligning

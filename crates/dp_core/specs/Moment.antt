@@ -5,17 +5,18 @@ use Rattle.dp_plant.specs.declared.place.Place.{Place}
 use Rattle.dp_plant.specs.declared.voting.Ballot.{Ballot}
 use Rattle.dp_plant.specs.declared.voting.Ballot.TheVariants.{Fresh}
 use Rattle.dp_voter.specs.declared.order.Took.TheVariants.{Taken}
-use Rattle.dp_core.specs.declared.answers.Heard.{Heard as HeardAnswer}
+use Rattle.dp_machine.specs.declared.issue.Issue.{Issue}
+use Rattle.dp_core.specs.declared.answers.Heard.{Heard}
 use Rattle.dp_core.specs.declared.answers.Heard.TheVariants.{Overrun}
+use Rattle.dp_core.specs.declared.answers.Ran.TheVariants.{Issued as RanIssued, Halted as RanHalted}
 use Rattle.dp_core.specs.declared.event.Event.{Event}
 use Rattle.dp_core.specs.declared.event.Event.TheVariants.{Wire, Run, Order, Vote, Skew, Say, Stop}
-use Rattle.dp_core.specs.Answers.{RanIssued, RanHalted}
-use Rattle.dp_core.specs.Issue.{IssueValue}
-use Rattle.dp_core.specs.Seen.{SeenValue, SeenHeard, SeenRan, SeenSent, SeenVoted, SeenSkewed}
+use Rattle.dp_core.specs.declared.event.Seen.{Seen}
+use Rattle.dp_core.specs.declared.event.Seen.TheVariants.{Heard as SeenHeard, Ran as SeenRan, Sent as SeenSent, Voted as SeenVoted, Skewed as SeenSkewed}
 
 pub record Moment : Type 0 where
   pub event : Event
-  pub seen : SeenValue
+  pub seen : Seen
 
 -- ---- the event
 
@@ -47,9 +48,9 @@ is_order a k (Say b j cycle force) = (b == a) && (j == k)
 is_order a k _ = false
 
 -- the place of a Skew of c
-unfoldable pub skewed_place : ℕ → Event → Option Place
-skewed_place c (Skew d at) = if d == c then Some at else None
-skewed_place c _ = None
+unfoldable pub place_of_skew : ℕ → Event → Option Place
+place_of_skew c (Skew d at) = if d == c then Some at else None
+place_of_skew c _ = None
 
 -- a fault of c: a Skew or a Say of it
 unfoldable pub is_fault : ℕ → Event → Bool
@@ -59,34 +60,34 @@ is_fault c _ = false
 
 -- ---- what was seen
 
-unfoldable pub is_overrun : Option HeardAnswer → Bool
+unfoldable pub is_overrun : Option Heard → Bool
 is_overrun (Some Overrun) = true
 is_overrun _ = false
 
 -- computer c overran
-unfoldable pub saw_overrun : ℕ → SeenValue → Bool
+unfoldable pub saw_overrun : ℕ → Seen → Bool
 saw_overrun c (SeenHeard hs) = is_overrun (slice_get hs c)
 saw_overrun c _ = false
 
-unfoldable pub saw_halted : SeenValue → Bool
-saw_halted (SeenRan RanHalted) = true
-saw_halted _ = false
+unfoldable pub saw_halt : Seen → Bool
+saw_halt (SeenRan RanHalted) = true
+saw_halt _ = false
 
-unfoldable pub saw_issue : SeenValue → Option IssueValue
+unfoldable pub saw_issue : Seen → Option Issue
 saw_issue (SeenRan (RanIssued x)) = Some x
 saw_issue _ = None
 
-unfoldable pub saw_taken : SeenValue → Bool
+unfoldable pub saw_taken : Seen → Bool
 saw_taken (SeenSent (Some Taken)) = true
 saw_taken _ = false
 
-unfoldable pub saw_ballot : SeenValue → Option Ballot
+unfoldable pub saw_ballot : Seen → Option Ballot
 saw_ballot (SeenVoted b) = Some b
 saw_ballot _ = None
 
-unfoldable pub saw_skewed : SeenValue → Bool
-saw_skewed (SeenSkewed b) = b
-saw_skewed _ = false
+unfoldable pub saw_skew : Seen → Bool
+saw_skew (SeenSkewed b) = b
+saw_skew _ = false
 
 unfoldable pub fresh_of : Option Ballot → Option ℤ
 fresh_of (Some (Fresh f)) = Some f
@@ -94,26 +95,34 @@ fresh_of _ = None
 
 -- ---- both
 
--- a Run of c at which the observer diverged
+-- a Run of c at which an estimate left its range
 unfoldable pub is_halt : ℕ → Moment → Bool
-is_halt c m = is_run c m.event && saw_halted m.seen
+is_halt c m = is_run c m.event && saw_halt m.seen
 
 -- c is off from here on
 unfoldable pub is_end : ℕ → Moment → Bool
 is_end c m = is_stop c m.event || is_halt c m
 
--- what ends a stretch of c: it is off, or it overran
+-- c has to be aligned from here on: it overran
+unfoldable pub is_interruption : ℕ → Moment → Bool
+is_interruption c m = saw_overrun c m.seen
+
+-- what ends a stretch of c
 unfoldable pub is_break : ℕ → Moment → Bool
-is_break c m = is_end c m || saw_overrun c m.seen
+is_break c m = is_end c m || is_interruption c m
 
 -- a Skew of c while it is live
 unfoldable pub is_skew : ℕ → Moment → Bool
-is_skew c m = is_some (skewed_place c m.event) && saw_skewed m.seen
+is_skew c m = is_some (place_of_skew c m.event) && saw_skew m.seen
+
+-- c goes on from another state than it had come to: it was skewed
+unfoldable pub is_base : ℕ → Moment → Bool
+is_base c m = is_skew c m
 
 -- the issue of a Run of c
-unfoldable pub issue_of : ℕ → Moment → Option IssueValue
-issue_of c m = if is_run c m.event then saw_issue m.seen else None
+unfoldable pub issue_at : ℕ → Moment → Option Issue
+issue_at c m = if is_run c m.event then saw_issue m.seen else None
 
 -- the ballot of a Vote of k
-unfoldable pub ballot_of : ℕ → Moment → Option Ballot
-ballot_of k m = if is_vote k m.event then saw_ballot m.seen else None
+unfoldable pub ballot_at : ℕ → Moment → Option Ballot
+ballot_at k m = if is_vote k m.event then saw_ballot m.seen else None

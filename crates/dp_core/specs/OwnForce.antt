@@ -3,14 +3,14 @@ use Rattle.std.specs.Prelude.{◌≡◌, ℕ, suc, List, ◌∷◌, ◌++◌, �
 use Rattle.dp_plant.specs.declared.frames.Frame.{Frame}
 use Rattle.dp_plant.specs.declared.plant.Plant.{Plant}
 use Rattle.dp_plant.specs.declared.voting.Mode.TheVariants.{Live}
+use Rattle.dp_machine.specs.declared.issue.Issue.{Issue}
+use Rattle.dp_machine.specs.Run.{issue_of}
+use Rattle.dp_machine.specs.Step.{step_of}
 use Rattle.dp_core.specs.declared.event.Event.{Event}
 use Rattle.dp_core.specs.declared.event.Event.TheVariants.{Run}
 use Rattle.dp_core.specs.History.{history}
-use Rattle.dp_core.specs.Issue.{IssueValue}
-use Rattle.dp_core.specs.Mode.{frames, heard, mode}
-use Rattle.dp_core.specs.Step.{step_of}
-use Rattle.dp_core.specs.Trajectory.{done, stepped_issue, trajectory}
-use Rattle.dp_core.specs.Voting.{force}
+use Rattle.dp_core.specs.Mode.{cycles_begun, frames, mode}
+use Rattle.dp_core.specs.Trajectory.{frames_done, trajectory}
 
 -- f is the force of thruster k that computer a issued for the last cycle, by a Run at which its own trajectory went on
 pub record IsOwnForce (p : Plant) (k a : ℕ) (es : List Event) (f : ℤ) : Type 0 where
@@ -19,8 +19,9 @@ pub record IsOwnForce (p : Plant) (k a : ℕ) (es : List Event) (f : ℤ) : Type
   pub parts : es ≡ later ++ Run a ∷ earlier
   pub live : mode a (history p earlier) ≡ Live
   pub frame : Frame
-  pub waited : slice_get (frames (history p earlier)) (done p a (history p earlier)) ≡ Some frame
-  pub issue : IssueValue
-  pub issued : stepped_issue (step_of p (trajectory p a (history p earlier)) frame) ≡ Some issue
-  pub of_cycle : heard (history p es) ≡ suc issue.cycle
-  pub is : f ≡ force issue k
+  pub waited : slice_get (frames (history p earlier)) (frames_done p a (history p earlier))
+      ≡ Some frame
+  pub issue : Issue
+  pub issued : issue_of (step_of p (trajectory p a (history p earlier)) frame) ≡ Some issue
+  pub of_cycle : cycles_begun (history p es) ≡ suc issue.cycle
+  pub is : slice_get issue.forces.items k ≡ Some f

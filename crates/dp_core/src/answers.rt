@@ -1,4 +1,4 @@
-use crate::Issue;
+use dp_machine::Issue;
 
 /// What a computer answers to a frame.
 #[derive(Clone, Copy, Debug, PartialEq, Eq)]

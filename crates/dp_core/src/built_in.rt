@@ -1,22 +1,18 @@
-//! The built-in plant can be run, and its thrusters can give what is demanded.
+//! The built-in plant's thrusters can give what is demanded.
 ghost use Rattle.dp_plant.specs.BuiltInPlant.{built_in_plant};
-ghost use Rattle.dp_core.specs.Operable.{CanGiveDemand, IsOperable};
-ghost use Rattle.dp_core.specs.Runnable.{IsRunnable};
+ghost use Rattle.dp_plant.specs.SoundPlant.{IsSoundPlant};
+ghost use Rattle.dp_core.specs.CanGiveDemand.{CanGiveDemand};
 
-/// A computer can run on the built-in plant.
-#[tactic(auto, unfolding(dp_plant::specs::BuiltInPlant::built_in_plant, crate::specs::Step::bounds_of))]
-pub fn built_in_plant_is_runnable()
-    ensures { IsRunnable built_in_plant }
-{}
+use dp_fixed::laws::floor_is_exact;
 
 /// A world can be made of the built-in plant.
-pub fn built_in_plant_is_operable()
-    ensures { IsOperable built_in_plant }
-{
-    built_in_plant_is_runnable();
-}
+pub fn built_in_plant_is_sound()
+    ensures { IsSoundPlant built_in_plant }
+{}
 
-/// Each thruster of the built-in plant can give what is demanded on its axis.
+/// Each thruster of the built-in plant can give what is demanded.
 pub fn built_in_plant_can_give_demand()
     ensures { CanGiveDemand built_in_plant }
-{}
+{
+    floor_is_exact();
+}

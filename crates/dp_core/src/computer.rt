@@ -1,96 +1,81 @@
-//! One computer of three: it hears frames, keeps up to 16 of them, and steps over the oldest when it runs.
+//! One computer of three: it takes in frames, keeps up to 16 of them, and steps over the oldest when it runs.
 ghost use Rattle.std.specs.Prelude.{◌≡◌, ◌≢◌, ◌^◌, IfOk, option_copied};
-ghost use Rattle.std.specs.Option.{option_map};
-ghost use Rattle.dp_plant.specs.declared.voting.Mode.TheVariants.{Off};
-ghost use Rattle.dp_plant.specs.Ranges.{IsVectorWithin};
-ghost use Rattle.dp_core.specs.Answers.{ran_value};
 ghost use Rattle.dp_plant.specs.FrameRanges.{IsFrameWithin};
-ghost use Rattle.dp_core.specs.Issue.{issue_value};
-ghost use Rattle.dp_core.specs.Runnable.{IsRunnable};
+ghost use Rattle.dp_plant.specs.Ranges.{IsVectorWithin};
+ghost use Rattle.dp_plant.specs.SoundPlant.{IsSoundPlant};
+ghost use Rattle.dp_plant.specs.declared.voting.Mode.TheVariants.{Off};
+ghost use Rattle.dp_core.specs.ComputerState.{after_run, after_skew, after_stop, after_wire, first_computer, mode_of, run_answer, skew_answer, wire_answer};
 
-use crate::step::{first, rested, step};
-use crate::{Heard, Issue, Ran, State};
+use crate::{Heard, Issue, Ran};
 use circular_buffer::HeapCircularBuffer;
+use dp_machine::Machine;
 use dp_plant::{Frame, Memory, Mode, Place, Plant};
 use std::alloc::Global;
 use std::marker::Model;
 
-/// A computer; a contract sees it as the record `Computing`.
+/// A computer; a contract sees it as the record `ComputerState`, with the machine's state only where it is live.
 #[derive(Drop)]
 pub(crate) struct Computer {
     mode: Mode,
-    state: State,
+    machine: Machine,
     waits: HeapCircularBuffer<Frame>,
     next: u64,
     last: Option<Issue>,
-    steps: u64,
 }
 
 impl Model for Computer {
-    ghost use Rattle.dp_core.specs.Computing.{Computing};
+    ghost use Rattle.dp_core.specs.ComputerState.{ComputerState};
 
-    ghost Value = { Computing };
+    ghost Value = { ComputerState };
 
-    ghost use Rattle.dp_core.specs.Inside.{computing, IsComputer};
+    ghost use Rattle.dp_core.specs.Inside.{computer_state, IsComputer};
 
-    ghost view = { computing };
+    ghost view = { computer_state };
 
     ghost invariant = { IsComputer };
 }
 
 impl Computer {
-    ghost use Rattle.dp_core.specs.Computing.{began, heard_frame, hearing, ran, running, skewed, skewing, stopped};
-
     /// Live, at the plant's first state; it makes room for 16 frames, and no later call takes memory.
-    #[tactic(auto, unfolding(crate::specs::Computing::began))]
+    #[tactic(auto, unfolding(crate::specs::ComputerState::first_computer))]
     pub(crate) fn new(alloc: Global, plant: &Plant) -> Result<Computer, Memory>
-        requires { IsRunnable plant.now }
-        ensures { IfOk result (λ c. c ≡ began plant.now) }
+        requires { IsSoundPlant plant.now }
+        ensures { IfOk result (λ c. c ≡ first_computer plant.now) }
     {
+        let machine = Machine::new(alloc, plant)?;
         let Ok(waits) = HeapCircularBuffer::with_capacity(alloc, 16) else {
             return Err(Memory);
         };
         Ok(Computer {
             mode: Mode::Live,
-            state: first(plant),
+            machine,
             waits,
             next: 0,
             last: None,
-            steps: 0,
         })
     }
 
     /// How it takes part.
     pub(crate) fn mode(&self) -> Mode
-        ensures { result ≡ self.now.mode }
+        ensures { result ≡ mode_of self.now.control }
     {
         self.mode
     }
 
     /// What it issued last since it started, if it issued anything.
     pub(crate) fn last(&self) -> Option<&Issue>
-        ensures { option_map issue_value (option_copied result) ≡ self.now.last }
+        ensures { option_copied result ≡ self.now.last }
     {
         self.last.as_ref()
     }
 
-    /// Switches it off, which empties its ring and its last issue.
-    #[tactic(auto, unfolding(crate::specs::Computing::stopped))]
-    pub(crate) fn stop(&mut self)
-        ensures { self.new ≡ stopped self.old }
-    {
-        self.mode = Mode::Off;
-        self.waits.clear();
-        self.last = None;
-    }
-
     /// Takes in the next frame, to be stepped over later.
-    #[tactic(auto, unfolding(crate::specs::Computing::heard_frame, crate::specs::Computing::hears_in, crate::specs::Computing::hearing, crate::specs::Computing::hearing_in))]
-    pub(crate) fn hear(&mut self, f: &Frame) -> Heard
-        requires next { self.old.mode ≢ Off → f.now.cycle ≡ self.old.next }
+    #[tactic(auto, unfolding(crate::specs::ComputerState::after_wire, crate::specs::ComputerState::wire_in, crate::specs::ComputerState::wire_answer, crate::specs::ComputerState::wire_answer_in))]
+    pub(crate) fn wire(&mut self, f: &Frame) -> Heard
+        requires next { mode_of self.old.control ≢ Off → f.now.cycle ≡ self.old.next }
         requires within { IsFrameWithin f.now }
-        ensures new { self.new ≡ heard_frame self.old f.now }
-        ensures answer { result ≡ hearing self.old }
+        ensures new { self.new ≡ after_wire self.old f.now }
+        ensures answer { result ≡ wire_answer self.old }
     {
         match self.mode {
             Mode::Off => Heard::Deaf,
@@ -115,49 +100,55 @@ impl Computer {
     }
 
     /// Steps over the oldest frame that waits.
-    #[tactic(auto, unfolding(crate::specs::Computing::ran, crate::specs::Computing::runs_in, crate::specs::Computing::runs_over, crate::specs::Computing::went_on, crate::specs::Computing::running, crate::specs::Computing::running_in, crate::specs::Computing::running_over, crate::specs::Computing::going_on, crate::specs::Computing::one_more))]
-    pub(crate) fn run(&mut self, plant: &Plant) -> Ran
-        requires { IsRunnable plant.now }
-        ensures new { self.new ≡ ran plant.now self.old }
-        ensures answer { ran_value result ≡ running plant.now self.old }
+    #[tactic(auto, unfolding(crate::specs::ComputerState::after_run, crate::specs::ComputerState::run_in, crate::specs::ComputerState::run_over_oldest, crate::specs::ComputerState::after_step, crate::specs::ComputerState::run_answer, crate::specs::ComputerState::run_answer_in, crate::specs::ComputerState::oldest_answer, crate::specs::ComputerState::step_answer))]
+    pub(crate) fn run(&mut self) -> Ran
+        ensures new { self.new ≡ after_run self.old }
+        ensures answer { result ≡ run_answer self.old }
     {
         match self.mode {
             Mode::Off => Ran::Off,
             Mode::Aligning => Ran::Aligning,
             Mode::Live => match self.waits.pop_front() {
                 None => Ran::Idle,
-                Some(f) => {
-                    self.steps = self.steps.saturating_add(1);
-                    match step(plant, &mut self.state, &f) {
-                        Ok(issue) => {
-                            self.last = Some(issue.copy());
-                            Ran::Issued(issue)
-                        }
-                        Err(_) => {
-                            self.mode = Mode::Off;
-                            self.waits.clear();
-                            self.last = None;
-                            Ran::Halted
-                        }
+                Some(f) => match self.machine.step(&f) {
+                    Ok(issue) => {
+                        self.last = Some(issue.copy());
+                        Ran::Issued(issue)
                     }
-                }
+                    Err(_) => {
+                        self.mode = Mode::Off;
+                        self.waits.clear();
+                        self.last = None;
+                        Ran::Halted
+                    }
+                },
             },
         }
     }
 
     /// Takes the vessel to be at rest at a place, and answers true, where it is live.
-    #[tactic(auto, unfolding(crate::specs::Computing::skewed, crate::specs::Computing::skews_in, crate::specs::Computing::skewing))]
+    #[tactic(auto, unfolding(crate::specs::ComputerState::after_skew, crate::specs::ComputerState::skew_in, crate::specs::ComputerState::skew_answer))]
     pub(crate) fn skew(&mut self, at: Place) -> bool
         requires { IsVectorWithin (2 ^ 43) at }
-        ensures new { self.new ≡ skewed self.old at }
-        ensures answer { result ≡ skewing self.old }
+        ensures new { self.new ≡ after_skew self.old at }
+        ensures answer { result ≡ skew_answer self.old }
     {
         match self.mode {
             Mode::Live => {
-                self.state = rested(self.state, at);
+                self.machine.skew(at);
                 true
             }
             Mode::Aligning | Mode::Off => false,
         }
+    }
+
+    /// Switches it off, which empties its ring and its last issue.
+    #[tactic(auto, unfolding(crate::specs::ComputerState::after_stop))]
+    pub(crate) fn stop(&mut self)
+        ensures { self.new ≡ after_stop self.old }
+    {
+        self.mode = Mode::Off;
+        self.waits.clear();
+        self.last = None;
     }
 }

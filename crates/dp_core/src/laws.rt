@@ -1,5 +1,6 @@
 //! What holds of every list of events: each function's contract is the law.
-ghost use Rattle.dp_core.specs.Laws.{FreshIsReference, SkewedIsFaulty, TakenIsOwn, TrajectoriesAreReference, TwoHeardAreFresh};
+ghost use Rattle.dp_core.specs.{FreshIsReference, SkewedIsFaulty, TakenIsOwn};
+ghost use Rattle.dp_core.specs.{TrajectoriesAreReference, TwoHeardAreFresh};
 
 use dp_fixed::laws::floor_is_exact;
 use dp_voter::laws::{fresh_is_right, two_right_are_fresh};
@@ -27,7 +28,7 @@ pub fn taken_is_own()
     ensures { TakenIsOwn }
 {}
 
-/// Where two computers that aren't faulty are heard in a cycle before its vote, its ballot is fresh.
+/// Where the issues of two computers that aren't faulty are delivered in a cycle before its vote, its ballot is fresh.
 pub fn two_heard_are_fresh()
     ensures { TwoHeardAreFresh }
 {

@@ -1,8 +1,8 @@
 //! The core: three computers that run the same control side by side, and a voter for each thruster.
 //!
-//! A [`World`] takes one [`Event`] at a time, in any order, and answers it with what is [`Seen`]. A Wire brings the frame of the next
-//! cycle: each computer hears it, and each voter's next cycle begins. A Run lets one computer step over the oldest frame that it has
-//! heard and not done, which gives an [`Issue`]. An Order delivers a computer's last issue to one voter, a Vote asks a voter for the
+//! A [`World`] takes one event at a time, in any order, by a call of the event's kind, or as an [`Event`] by [`World::apply`], which is
+//! answered with what is [`Seen`]. A Wire brings the frame of the next cycle to each computer, and each voter's next cycle begins. A Run
+//! lets one computer step over the oldest frame that it has been given and not done, which gives an [`Issue`]. An Order delivers a computer's last issue to one voter, a Vote asks a voter for the
 //! ballot of this cycle. Skew, Say and Stop are faults: a computer's estimate is put at rest at a false place, a computer orders any
 //! force, a computer is switched off. Nothing is promised of the order of events: frames may wait, orders may get lost.
 //!
@@ -10,32 +10,27 @@
 //! stands beside what was seen of it. What a computer's mode, trajectory and last issue are, and which orders and ballots a voter gave,
 //! is found by a search from the newest moment on (`Mode`, `Trajectory`, `Voting`). A world `Represents` a list of events where its parts
 //! are what the list's history says; [`World::new`] represents the empty list, and after [`World::apply`] of an event a world represents
-//! its list followed by that event, with the answer that the history gives.
+//! its list followed by that event, with the answer that the history gives; so it is with the call of each kind.
 //!
 //! A computer is faulty from a Skew or a Say of it on, until it breaks: is stopped, diverges or overruns. So a skewed computer counts as
 //! faulty, though its orders are what it believes. [`laws`] says, for every list of events in which at most one computer is faulty in any
 //! cycle, that a live computer that isn't skewed has come to the state of the reference run, one computer alone over all the frames, and
 //! that every fresh ballot is the reference run's force; and, whatever is faulty, whose force it is that a voter takes.
 //!
-//! A plant must be one that a world can be made of: `IsOperable` in `specs/Operable`. [`built_in`] shows it of the built-in plant.
+//! A plant must be one whose numbers are in range: `IsSoundPlant` of dp_plant. [`built_in`] shows of the built-in plant that its thrusters
+//! can give what is demanded.
 #![tactic(auto)]
 
 mod answers;
 pub mod built_in;
 mod computer;
 mod event;
-mod fusion;
-mod issue;
-mod law;
 pub mod laws;
-mod state;
-mod step;
 mod world;
 
 pub use answers::{Heard, Ran};
+pub use dp_machine::{Issue, State};
 pub use dp_plant::{Ballot, Mode, Place};
 pub use dp_voter::Took;
 pub use event::{Event, Seen};
-pub use issue::Issue;
-pub use state::State;
 pub use world::World;

@@ -1,16 +1,20 @@
 //! Three computers and a voter for each thruster: what each event does to them.
-ghost use Rattle.std.specs.Prelude.{◌≡◌, ◌<◌, ◌^◌, ℕ, List, [], ◌∷◌, IfOk, IsTrue, map, length, Some, None, slice_get, option_copied};
+ghost use Rattle.std.specs.Prelude.{◌≡◌, ◌<◌, ◌≤ℤ◌, ◌^◌, ℕ, List, [], ◌∷◌, IfOk, map, length, Some, slice_get, option_copied};
 ghost use Rattle.std.specs.Option.{option_map};
-ghost use Rattle.dp_plant.specs.Ranges.{IsVectorWithin};
-ghost use Rattle.dp_voter.specs.VoterState.{begun};
-ghost use Rattle.dp_plant.specs.declared.thrusters.Thruster.{Thruster};
-ghost use Rattle.dp_core.specs.WorldState.{voter_of};
-ghost use Rattle.std.specs.Prelude.{◌≤ℤ◌};
-ghost use Rattle.dp_core.specs.Computing.{Computing, heard_frame, hearing};
-ghost use Rattle.dp_core.specs.Issue.{issue_value};
-ghost use Rattle.dp_core.specs.Voting.{force};
 ghost use Rattle.dp_plant.specs.FrameRanges.{IsFrameWithin};
+ghost use Rattle.dp_plant.specs.Ranges.{IsVectorWithin};
+ghost use Rattle.dp_plant.specs.SoundPlant.{IsSoundPlant};
+ghost use Rattle.dp_plant.specs.declared.thrusters.Thruster.{Thruster};
+ghost use Rattle.dp_voter.specs.Orders.{answer_of};
+ghost use Rattle.dp_voter.specs.VoterState.{VoterState, begun};
+ghost use Rattle.dp_core.specs.ComputerState.{ComputerState, after_wire, is_live, wire_answer};
+ghost use Rattle.dp_core.specs.WorldState.{last_of, message_by, voter_of};
 ghost use Rattle.dp_core.specs.WorldView.{IsInStep};
+ghost use Rattle.dp_core.specs.Represents.{Represents};
+ghost use Rattle.dp_core.specs.{IsAllowed, after, answer, answer_if, answer_to_run, answers_to_wire};
+ghost use Rattle.dp_core.specs.{ballot, history, last_issue, message_of, mode, seen_of, taken_forces};
+ghost use Rattle.dp_core.specs.declared.event.Event.{Event};
+ghost use Rattle.dp_core.specs.declared.event.Event.TheVariants.{Wire, Run, Order, Vote, Skew, Say, Stop};
 
 use crate::computer::Computer;
 use crate::{Ballot, Event, Heard, Issue, Mode, Place, Ran, Seen, Took};
@@ -26,7 +30,7 @@ pub struct World {
     plant: Plant,
     computers: [Computer; 3],
     voters: ArrayVec<Voter, 12>,
-    heard: u64,
+    cycles_begun: u64,
 }
 
 impl Model for World {
@@ -41,16 +45,221 @@ impl Model for World {
     ghost invariant = { IsWorld };
 }
 
-fn hear_all(computers: &mut [Computer; 3], f: &Frame) -> [Heard; 3]
-    requires in_step { (c : ℕ) (x : Computing) → slice_get computers.old c ≡ Some x → IsInStep f.now.cycle x }
+impl World {
+    /// Three computers that are live at the plant's first state, and a voter for each thruster, before the first cycle. No later call
+    /// takes memory.
+    pub fn new(alloc: Global, plant: &Plant) -> Result<World, Memory>
+        requires { IsSoundPlant plant.now }
+        ensures plant { IfOk result (λ w. w.plant ≡ plant.now) }
+        ensures represents { IfOk result (λ w. Represents [] w) }
+    {
+        let first = Computer::new(alloc, plant)?;
+        let second = Computer::new(alloc, plant)?;
+        let third = Computer::new(alloc, plant)?;
+        Ok(World {
+            plant: plant.copy(),
+            computers: [first, second, third],
+            voters: voters_of(plant),
+            cycles_begun: 0,
+        })
+    }
+
+    /// One event happens; it is answered.
+    pub fn apply(&mut self, e: &Event) -> Seen
+        requires { IsAllowed self.old e.now }
+        ensures represents { (es : List Event) → Represents es self.old
+            → Represents (e.now ∷ es) self.new }
+        ensures seen { (es : List Event) → Represents es self.old
+            → result ≡ seen_of self.old.plant (history self.old.plant es) e.now }
+        ensures plant { self.new.plant ≡ self.old.plant }
+    {
+        match e {
+            Event::Wire(f) => Seen::Heard(self.wire(f)),
+            Event::Run { c } => Seen::Ran(self.run(*c)),
+            Event::Order { from, voter } => Seen::Sent(self.order(*from, *voter)),
+            Event::Vote { voter } => Seen::Voted(self.vote(*voter)),
+            Event::Skew { c, at } => Seen::Skewed(self.skew(*c, *at)),
+            Event::Say {
+                from,
+                voter,
+                cycle,
+                force,
+            } => Seen::Sent(Some(self.say(*from, *voter, *cycle, *force))),
+            Event::Stop { c } => {
+                self.stop(*c);
+                Seen::Done
+            }
+        }
+    }
+
+    /// The frame of the next cycle comes to all computers, and the voters' next cycle begins; what each computer did with it.
+    pub fn wire(&mut self, f: &Frame) -> [Heard; 3]
+        requires next { f.now.cycle ≡ self.old.cycles_begun }
+        requires within { IsFrameWithin f.now }
+        ensures represents { (es : List Event) → Represents es self.old
+            → Represents (Wire f.now ∷ es) self.new }
+        ensures answers { (es : List Event) → Represents es self.old
+            → result ≡ answers_to_wire self.old.plant (history self.old.plant es) }
+        ensures plant { self.new.plant ≡ self.old.plant }
+    {
+        let answers = wire_all(&mut self.computers, f);
+        begin_all(&mut self.voters, f.cycle);
+        self.cycles_begun += 1;
+        answers
+    }
+
+    /// A computer, 0 to 2, processes the frame that waits longest.
+    pub fn run(&mut self, c: u8) -> Ran
+        requires { c < 3 }
+        ensures represents { (es : List Event) → Represents es self.old
+            → Represents (Run c ∷ es) self.new }
+        ensures answer { (es : List Event) → Represents es self.old
+            → result ≡ answer_to_run self.old.plant c (history self.old.plant es)
+            (mode c (history self.old.plant es)) }
+        ensures plant { self.new.plant ≡ self.old.plant }
+    {
+        self.computers[c as usize].run()
+    }
+
+    /// The last issue of a computer is delivered to a voter; none where the computer has none.
+    pub fn order(&mut self, from: u8, voter: u8) -> Option<Took>
+        requires computer { from < 3 }
+        requires voter { voter < length self.old.plant.thrusters.items }
+        ensures represents { (es : List Event) → Represents es self.old
+            → Represents (Order from voter ∷ es) self.new }
+        ensures answer { (es : List Event) → Represents es self.old
+            → result ≡ answer_if self.old.plant voter from (history self.old.plant es)
+            (message_of voter (last_issue from (history self.old.plant es))) }
+        ensures plant { self.new.plant ≡ self.old.plant }
+    {
+        let (cycle, force) = self.message(from, voter)?;
+        Some(self.deliver(from, voter, cycle, force))
+    }
+
+    /// A fault: a computer, whatever its mode, orders any force, in newtons, of any cycle.
+    pub fn say(&mut self, from: u8, voter: u8, cycle: u64, force: i64) -> Took
+        requires computer { from < 3 }
+        requires voter { voter < length self.old.plant.thrusters.items }
+        ensures represents { (es : List Event) → Represents es self.old
+            → Represents (Say from voter cycle force ∷ es) self.new }
+        ensures answer { (es : List Event) → Represents es self.old
+            → result ≡ answer self.old.plant voter from (history self.old.plant es)
+            (record { cycle = cycle; force = force }) }
+        ensures plant { self.new.plant ≡ self.old.plant }
+    {
+        self.deliver(from, voter, cycle, force)
+    }
+
+    /// A voter gives the ballot of this cycle.
+    pub fn vote(&mut self, voter: u8) -> Ballot
+        requires { voter < length self.old.plant.thrusters.items }
+        ensures represents { (es : List Event) → Represents es self.old
+            → Represents (Vote voter ∷ es) self.new }
+        ensures ballot { (es : List Event) → Represents es self.old
+            → result ≡ ballot voter (history self.old.plant es) }
+        ensures plant { self.new.plant ≡ self.old.plant }
+    {
+        self.voters[voter as usize].vote()
+    }
+
+    /// A fault: a live computer's estimate of the plane is put at rest at a place; whether it is live.
+    pub fn skew(&mut self, c: u8, at: Place) -> bool
+        requires computer { c < 3 }
+        requires place { IsVectorWithin (2 ^ 43) at }
+        ensures represents { (es : List Event) → Represents es self.old
+            → Represents (Skew c at ∷ es) self.new }
+        ensures answer { (es : List Event) → Represents es self.old
+            → result ≡ is_live (mode c (history self.old.plant es)) }
+        ensures plant { self.new.plant ≡ self.old.plant }
+    {
+        self.computers[c as usize].skew(at)
+    }
+
+    /// A computer is switched off.
+    pub fn stop(&mut self, c: u8)
+        requires { c < 3 }
+        ensures represents { (es : List Event) → Represents es self.old
+            → Represents (Stop c ∷ es) self.new }
+        ensures plant { self.new.plant ≡ self.old.plant }
+    {
+        self.computers[c as usize].stop();
+    }
+
+    /// How each computer takes part.
+    pub fn modes(&self) -> [Mode; 3]
+        ensures { (es : List Event) → Represents es self.now
+            → result ≡ mode 0 (history self.now.plant es) ∷ mode 1 (history self.now.plant es)
+            ∷ mode 2 (history self.now.plant es) ∷ [] }
+    {
+        [
+            self.computers[0].mode(),
+            self.computers[1].mode(),
+            self.computers[2].mode(),
+        ]
+    }
+
+    /// The orders that a voter took in this cycle, one place for each computer.
+    pub fn held(&self, voter: u8) -> [Option<i64>; 3]
+        requires { voter < length self.now.plant.thrusters.items }
+        ensures { (es : List Event) → Represents es self.now
+            → result ≡ taken_forces voter (history self.now.plant es) }
+    {
+        self.voters[voter as usize].held()
+    }
+
+    /// The last issue of a computer, 0 to 2, if it issued anything since it was last broken.
+    pub fn issue(&self, c: u8) -> Option<&Issue>
+        requires { c < 3 }
+        ensures { (es : List Event) → Represents es self.now
+            → option_copied result ≡ last_issue c (history self.now.plant es) }
+    {
+        self.computers[c as usize].last()
+    }
+
+    fn last(&self, c: u8) -> Option<&Issue>
+        requires { c < 3 }
+        ensures { option_copied result ≡ last_of (slice_get self.now.computers c) }
+    {
+        self.computers[c as usize].last()
+    }
+
+    /// What a computer's last issue says to a voter.
+    #[tactic(auto, unfolding(crate::specs::Voting::message_of))]
+    fn message(&self, from: u8, voter: u8) -> Option<(u64, i64)>
+        requires { from < 3 }
+        ensures { option_map message_by result
+            ≡ message_of voter (last_of (slice_get self.now.computers from)) }
+    {
+        match self.last(from) {
+            None => None,
+            Some(issue) => message_to(issue, voter),
+        }
+    }
+
+    /// A voter answers to an order of this force for this cycle.
+    #[tactic(auto, unfolding(crate::specs::WorldState::after))]
+    fn deliver(&mut self, from: u8, voter: u8, cycle: u64, force: i64) -> Took
+        requires computer { from < 3 }
+        requires voter { voter < length self.old.plant.thrusters.items }
+        ensures new { self.new ≡ after self.old (Say from voter cycle force) }
+        ensures answer { (v : VoterState) → slice_get self.old.voters voter ≡ Some v
+            → result ≡ answer_of v from cycle force }
+    {
+        self.voters[voter as usize].order(from, cycle, force)
+    }
+}
+
+fn wire_all(computers: &mut [Computer; 3], f: &Frame) -> [Heard; 3]
+    requires in_step { (c : ℕ) (x : ComputerState) → slice_get computers.old c ≡ Some x
+        → IsInStep f.now.cycle x }
     requires within { IsFrameWithin f.now }
-    ensures new { computers.new ≡ map (λ x. heard_frame x f.now) computers.old }
-    ensures answers { result ≡ map hearing computers.old }
+    ensures new { computers.new ≡ map (λ x. after_wire x f.now) computers.old }
+    ensures answers { result ≡ map wire_answer computers.old }
 {
     [
-        computers[0].hear(f),
-        computers[1].hear(f),
-        computers[2].hear(f),
+        computers[0].wire(f),
+        computers[1].wire(f),
+        computers[2].wire(f),
     ]
 }
 
@@ -63,22 +272,19 @@ fn begin_all(voters: &mut ArrayVec<Voter, 12>, cycle: u64)
 }
 
 /// The cycle and the force of a thruster that an issue says.
-#[tactic(auto, unfolding(crate::specs::Voting::force))]
-fn said_in(issue: &Issue, k: u8) -> (u64, i64)
-    ensures cycle { result.0 ≡ (issue_value issue.now).cycle }
-    ensures force { result.1 ≡ force (issue_value issue.now) k }
+#[tactic(auto, unfolding(crate::specs::Voting::message_of))]
+fn message_to(issue: &Issue, voter: u8) -> Option<(u64, i64)>
+    ensures { option_map message_by result ≡ message_of voter (Some issue.now) }
 {
-    let force = issue
-        .forces
-        .as_slice()
-        .get(k as usize)
-        .copied()
-        .unwrap_or(0);
-    (issue.cycle, force)
+    match issue.forces.as_slice().get(voter as usize) {
+        None => None,
+        Some(force) => Some((issue.cycle, *force)),
+    }
 }
 
 fn voters_of(plant: &Plant) -> ArrayVec<Voter, 12>
-    requires { (k : ℕ) (t : Thruster) → slice_get plant.now.thrusters.items k ≡ Some t → t.min ≤ℤ t.max }
+    requires { (k : ℕ) (t : Thruster) → slice_get plant.now.thrusters.items k ≡ Some t
+        → t.min ≤ℤ t.max }
     ensures { result.items ≡ map voter_of plant.now.thrusters.items }
 {
     let mut voters = ArrayVec::new();
@@ -86,183 +292,6 @@ fn voters_of(plant: &Plant) -> ArrayVec<Voter, 12>
         voters.push(Voter::new(thruster.min, thruster.max));
     }
     voters
-}
-
-impl World {
-    ghost use Rattle.std.specs.Prelude.{◌≡◌, ◌<◌, ◌^◌, List, [], ◌∷◌, IfOk, Some, slice_get};
-    ghost use Rattle.dp_core.specs.Answers.{ran_value};
-    ghost use Rattle.dp_core.specs.Computing.{running, skewing};
-    ghost use Rattle.dp_core.specs.History.{history, seen_of};
-    ghost use Rattle.dp_core.specs.Operable.{IsOperable};
-    ghost use Rattle.dp_core.specs.Represents.{Represents};
-    ghost use Rattle.dp_core.specs.Seen.{seen_value};
-    ghost use Rattle.dp_core.specs.Mode.{mode};
-    ghost use Rattle.dp_core.specs.Trajectory.{last_issue};
-    ghost use Rattle.dp_core.specs.Voting.{said_by, taken};
-    ghost use Rattle.dp_core.specs.WorldState.{IsAllowed, after, last_of, said_pair};
-    ghost use Rattle.dp_voter.specs.Ballots.{ballot_of};
-    ghost use Rattle.dp_voter.specs.Orders.{answer_of};
-    ghost use Rattle.dp_voter.specs.VoterState.{VoterState};
-    ghost use Rattle.dp_core.specs.declared.event.Event.{Event};
-    ghost use Rattle.dp_core.specs.declared.event.Event.TheVariants.{Wire, Run, Order, Vote, Skew, Say, Stop};
-
-    /// Three computers that are live at the plant's first state, and a voter for each thruster, before the first cycle. No later call
-    /// takes memory.
-    pub fn new(alloc: Global, plant: &Plant) -> Result<World, Memory>
-        requires { IsOperable plant.now }
-        ensures plant { IfOk result (λ w. w.plant ≡ plant.now) }
-        ensures represents { IfOk result (λ w. Represents [] w) }
-    {
-        let first = Computer::new(alloc, plant)?;
-        let second = Computer::new(alloc, plant)?;
-        let third = Computer::new(alloc, plant)?;
-        Ok(World {
-            plant: plant.copy(),
-            computers: [first, second, third],
-            voters: voters_of(plant),
-            heard: 0,
-        })
-    }
-
-    /// How each computer takes part.
-    pub fn modes(&self) -> [Mode; 3]
-        ensures parts { result ≡ map (λ x. x.mode) self.now.computers }
-        ensures represents { (es : List Event) → Represents es self.now
-            → result ≡ mode 0 (history self.now.plant es) ∷ mode 1 (history self.now.plant es) ∷ mode 2 (history self.now.plant es) ∷ [] }
-    {
-        [
-            self.computers[0].mode(),
-            self.computers[1].mode(),
-            self.computers[2].mode(),
-        ]
-    }
-
-    /// The orders that a voter took in this cycle, one place for each computer.
-    pub fn held(&self, voter: u8) -> [Option<i64>; 3]
-        requires { voter < length self.now.plant.thrusters.items }
-        ensures part { (v : VoterState) → slice_get self.now.voters voter ≡ Some v → result ≡ v.orders }
-        ensures represents { (es : List Event) → Represents es self.now
-            → result ≡ taken voter 0 (history self.now.plant es) ∷ taken voter 1 (history self.now.plant es) ∷ taken voter 2 (history self.now.plant es) ∷ [] }
-    {
-        self.voters[voter as usize].held()
-    }
-
-    #[tactic(auto, unfolding(crate::specs::WorldState::after))]
-    fn wire(&mut self, f: &Frame) -> [Heard; 3]
-        requires next { f.now.cycle ≡ self.old.heard }
-        requires within { IsFrameWithin f.now }
-        ensures new { self.new ≡ after self.old (Wire f.now) }
-        ensures answers { result ≡ map hearing self.old.computers }
-    {
-        let heard = hear_all(&mut self.computers, f);
-        begin_all(&mut self.voters, f.cycle);
-        self.heard += 1;
-        heard
-    }
-
-    #[tactic(auto, unfolding(crate::specs::WorldState::after))]
-    fn run(&mut self, c: u8) -> Ran
-        requires { c < 3 }
-        ensures new { self.new ≡ after self.old (Run c) }
-        ensures answer { (x : Computing) → slice_get self.old.computers c ≡ Some x → ran_value result ≡ running self.old.plant x }
-    {
-        self.computers[c as usize].run(&self.plant)
-    }
-
-    #[tactic(auto, unfolding(crate::specs::WorldState::after))]
-    fn stop(&mut self, c: u8)
-        requires { c < 3 }
-        ensures { self.new ≡ after self.old (Stop c) }
-    {
-        self.computers[c as usize].stop();
-    }
-
-    #[tactic(auto, unfolding(crate::specs::WorldState::after))]
-    fn skew(&mut self, c: u8, at: Place) -> bool
-        requires computer { c < 3 }
-        requires place { IsVectorWithin (2 ^ 43) at }
-        ensures new { self.new ≡ after self.old (Skew c at) }
-        ensures answer { (x : Computing) → slice_get self.old.computers c ≡ Some x → result ≡ skewing x }
-    {
-        self.computers[c as usize].skew(at)
-    }
-
-    #[tactic(auto, unfolding(crate::specs::WorldState::after))]
-    fn vote(&mut self, k: u8) -> Ballot
-        requires { k < length self.old.plant.thrusters.items }
-        ensures new { self.new ≡ after self.old (Vote k) }
-        ensures answer { (v : VoterState) → slice_get self.old.voters k ≡ Some v → result ≡ ballot_of v }
-    {
-        self.voters[k as usize].vote()
-    }
-
-    #[tactic(auto, unfolding(crate::specs::WorldState::after))]
-    fn say(&mut self, from: u8, k: u8, cycle: u64, force: i64) -> Took
-        requires computer { from < 3 }
-        requires voter { k < length self.old.plant.thrusters.items }
-        ensures new { self.new ≡ after self.old (Say from k cycle force) }
-        ensures answer { (v : VoterState) → slice_get self.old.voters k ≡ Some v → result ≡ answer_of v from cycle force }
-    {
-        self.voters[k as usize].order(from, cycle, force)
-    }
-
-    /// The last issue of a computer, 0 to 2, if it issued anything since it was last broken.
-    pub fn issue(&self, c: u8) -> Option<&Issue>
-        requires { c < 3 }
-        ensures part { option_map issue_value (option_copied result) ≡ last_of (slice_get self.now.computers c) }
-        ensures represents { (es : List Event) → Represents es self.now
-            → option_map issue_value (option_copied result) ≡ last_issue c (history self.now.plant es) }
-    {
-        self.computers[c as usize].last()
-    }
-
-    #[tactic(auto, unfolding(crate::specs::Voting::said_by))]
-    fn said(&self, from: u8, k: u8) -> Option<(u64, i64)>
-        requires { from < 3 }
-        ensures { option_map said_pair result ≡ said_by k (last_of (slice_get self.now.computers from)) }
-    {
-        match self.issue(from) {
-            None => None,
-            Some(issue) => Some(said_in(issue, k)),
-        }
-    }
-
-    #[tactic(auto, unfolding(crate::specs::WorldState::after))]
-    fn order(&mut self, from: u8, k: u8) -> Option<Took>
-        requires computer { from < 3 }
-        requires voter { k < length self.old.plant.thrusters.items }
-        ensures new { self.new ≡ after self.old (Order from k) }
-        ensures answer { (v : VoterState) → slice_get self.old.voters k ≡ Some v → result ≡ option_map (λ s. answer_of v from s.cycle s.force) (said_by k (last_of (slice_get self.old.computers from))) }
-    {
-        let (cycle, force) = self.said(from, k)?;
-        Some(self.say(from, k, cycle, force))
-    }
-
-    /// One event happens; it is answered.
-    pub fn apply(&mut self, e: &Event) -> Seen
-        requires { IsAllowed self.old e.now }
-        ensures represents { (es : List Event) → Represents es self.old → Represents (e.now ∷ es) self.new }
-        ensures seen { (es : List Event) → Represents es self.old → seen_value result ≡ seen_of self.old.plant (history self.old.plant es) e.now }
-        ensures plant { self.new.plant ≡ self.old.plant }
-    {
-        match *e {
-            Event::Wire(f) => Seen::Heard(self.wire(&f)),
-            Event::Run { c } => Seen::Ran(self.run(c)),
-            Event::Order { from, voter } => Seen::Sent(self.order(from, voter)),
-            Event::Vote { voter } => Seen::Voted(self.vote(voter)),
-            Event::Skew { c, at } => Seen::Skewed(self.skew(c, at)),
-            Event::Say {
-                from,
-                voter,
-                cycle,
-                force,
-            } => Seen::Sent(Some(self.say(from, voter, cycle, force))),
-            Event::Stop { c } => {
-                self.stop(c);
-                Seen::Done
-            }
-        }
-    }
 }
 
 #[cfg(test)]

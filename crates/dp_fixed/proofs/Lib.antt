@@ -3,3 +3,4 @@ pub mod Divisions
 pub mod Clamps
 pub mod Wraps
 pub mod RootsUp
+pub mod LeastRoots

@@ -30,10 +30,13 @@ abbrev pub ClampIsMonotone : Type 0
 ClampIsMonotone = (x y lo hi : ℤ) → x ≤ℤ y → clamp_of x lo hi ≤ℤ clamp_of y lo hi
 
 abbrev pub ClampMovesNoFarther : Type 0
-ClampMovesNoFarther = (x y lo hi : ℤ) → unsigned_abs (clamp_of x lo hi -ℤ clamp_of y lo hi) ≤ unsigned_abs (x -ℤ y)
+ClampMovesNoFarther =
+    (x y lo hi : ℤ) → unsigned_abs (clamp_of x lo hi -ℤ clamp_of y lo hi) ≤ unsigned_abs (x -ℤ y)
 
 abbrev pub MiddleIsBetween : Type 0
 MiddleIsBetween = (a b c : ℤ) → IsMiddle a b c (mid3_of a b c)
 
 abbrev pub WrapIsNearest : Type 0
-WrapIsNearest = (x turn : ℤ) → pos 0 <ℤ turn → int_rem_euclid turn (pos 2) ≡ pos 0 → IsWrapped x turn (wrap_of x turn)
+WrapIsNearest =
+    (x turn : ℤ) → pos 0 <ℤ turn → int_rem_euclid turn (pos 2) ≡ pos 0
+    → IsWrapped x turn (wrap_of x turn)

@@ -1,5 +1,5 @@
 ghost use Rattle.std.specs.Prelude.{◌≡◌, pos, ◌<ℤ◌};
-ghost use Rattle.dp_fixed.specs.Division.{IsCeil, IsFloor, ceil_of, floor_of};
+ghost use Rattle.dp_fixed.specs.{IsCeil, IsFloor, ceil_of, floor_of};
 
 /// `n / d`, rounded toward minus infinity.
 pub fn floor_div(n: i128, d: i128) -> i128

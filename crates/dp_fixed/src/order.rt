@@ -1,5 +1,5 @@
 ghost use Rattle.std.specs.Prelude.{◌≡◌, ◌⊎◌, ◌≤ℤ◌};
-ghost use Rattle.dp_fixed.specs.Order.{clamp_of, mid3_of};
+ghost use Rattle.dp_fixed.specs.{clamp_of, mid3_of};
 
 /// `x`, or the nearer end of the range where it lies outside.
 pub fn clamp(x: i128, lo: i128, hi: i128) -> i128

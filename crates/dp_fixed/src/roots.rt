@@ -1,5 +1,5 @@
 ghost use Rattle.std.specs.Prelude.{◌^◌, pos, ◌≤ℤ◌};
-ghost use Rattle.dp_fixed.specs.Roots.{IsRootUp};
+ghost use Rattle.dp_fixed.specs.{IsRootUp};
 
 /// The square root of `n`, rounded up: the least whole number from 0 up whose square is at least `n`, from 0 to 2^100.
 pub fn root_up(n: i128) -> i128

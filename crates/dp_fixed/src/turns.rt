@@ -1,6 +1,6 @@
 ghost use Rattle.std.specs.Prelude.{◌≡◌, ◌≤◌, ◌^◌, pos, ◌<ℤ◌, ◌≤ℤ◌, unsigned_abs};
 ghost use Rattle.std.specs.Int.{int_rem_euclid};
-ghost use Rattle.dp_fixed.specs.Turns.{IsWrapped, wrap_of};
+ghost use Rattle.dp_fixed.specs.{IsWrapped, wrap_of};
 
 /// What differs from `x` by whole turns and lies from minus half a turn up to, but not including, half a turn.
 ///

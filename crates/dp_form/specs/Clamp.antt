@@ -16,4 +16,5 @@ pub record Share (f g : ℤ) : Type 0 where
   pub is_share : whole *ℤ g ≡ part *ℤ f
 
 abbrev pub ClampShares : Type 0
-ClampShares = (low high z y : ℤ) → low ≤ℤ high → Share (z -ℤ y) (clamp low high z -ℤ clamp low high y)
+ClampShares =
+    (low high z y : ℤ) → low ≤ℤ high → Share (z -ℤ y) (clamp low high z -ℤ clamp low high y)

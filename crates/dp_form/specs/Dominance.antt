@@ -10,9 +10,13 @@ IsDiagonallyDominant n p = (i : ℕ) → i < n → shortfall p i ≤ℤ pos 0
 
 -- a symmetric matrix that is diagonally dominant has a form of at least 0
 abbrev pub DominantIsNonNegative : Type 0
-DominantIsNonNegative = (n : ℕ) (p : List (List ℤ)) → HasSize n p → IsSymmetric n p → IsDiagonallyDominant n p → IsNonNegative p
+DominantIsNonNegative =
+    (n : ℕ) (p : List (List ℤ)) → HasSize n p → IsSymmetric n p → IsDiagonallyDominant n p
+    → IsNonNegative p
 
 -- a symmetric matrix that squares with weights from 0 up show has a form of at least 0
 abbrev pub ShownIsNonNegative : Type 0
-ShownIsNonNegative = (n : ℕ) (p : List (List ℤ)) (qs : List (Square n)) → HasSize n p → All (λ q. length q.l ≡ n) qs → All (λ q. pos 0 ≤ℤ q.d) qs →
+ShownIsNonNegative =
+    (n : ℕ) (p : List (List ℤ)) (qs : List (Square n)) → HasSize n p → All (λ q. length q.l ≡ n) qs
+    → All (λ q. pos 0 ≤ℤ q.d) qs →
     IsSymmetric n p → IsShown p qs → IsNonNegative p

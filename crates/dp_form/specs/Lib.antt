@@ -10,3 +10,14 @@ pub mod Mix
 pub mod Axes
 pub mod Clamp
 pub mod ProductLaws
+pub use Rattle.dp_form.specs.Vectors.{entry, row}
+pub use Rattle.dp_form.specs.Form.{IsNonNegative, IsSymmetric}
+pub use Rattle.dp_form.specs.Range.{IsSmallSquare, IsWithin}
+pub use Rattle.dp_form.specs.Residual.{residual}
+pub use Rattle.dp_form.specs.Shown.{IsFirstShort, IsShown, shortfall}
+pub use Rattle.dp_form.specs.Dominance.{DominantIsNonNegative, ShownIsNonNegative}
+pub use Rattle.dp_form.specs.Triangle.{PlaneTriangle}
+pub use Rattle.dp_form.specs.Mix.{MixBelow}
+pub use Rattle.dp_form.specs.Axes.{AxesSplit, ShortPairBound}
+pub use Rattle.dp_form.specs.Clamp.{ClampShares}
+pub use Rattle.dp_form.specs.ProductLaws.{FactorsCancel, FactorsKeepOrder, ProductsAssociate, ProductsDistribute, SquaresAreNonNegative}

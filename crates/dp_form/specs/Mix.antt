@@ -24,9 +24,14 @@ weighted_forms p (w ∷ ws) = w.weight *ℤ form p w.vector +ℤ weighted_forms 
 
 -- the form of a mixture is at most the weights' sum times the weighted sum of the forms
 abbrev pub Mix : Type 0
-Mix = (p : List (List ℤ)) → IsNonNegative p → (ws : List Weighted) → All (λ w. pos 0 ≤ℤ w.weight) ws → form p (mixture ws) ≤ℤ (total_weight ws *ℤ weighted_forms p ws)
+Mix =
+    (p : List (List ℤ)) → IsNonNegative p → (ws : List Weighted) → All (λ w. pos 0 ≤ℤ w.weight) ws
+    → form p (mixture ws) ≤ℤ (total_weight ws *ℤ weighted_forms p ws)
 
--- so where each vector's form is at most r, the mixture's is at most r times the square of the weights' sum
+-- so where each vector's form is at most r, the mixture's is at most r times the square of the
+-- weights' sum
 abbrev pub MixBelow : Type 0
-MixBelow = (p : List (List ℤ)) → IsNonNegative p → (r : ℤ) (ws : List Weighted) → All (λ w. pos 0 ≤ℤ w.weight) ws → All (λ w. form p w.vector ≤ℤ r) ws →
+MixBelow =
+    (p : List (List ℤ)) → IsNonNegative p → (r : ℤ) (ws : List Weighted)
+    → All (λ w. pos 0 ≤ℤ w.weight) ws → All (λ w. form p w.vector ≤ℤ r) ws →
     form p (mixture ws) ≤ℤ (total_weight ws *ℤ (total_weight ws *ℤ r))

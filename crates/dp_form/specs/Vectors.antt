@@ -1,4 +1,5 @@
--- Vectors are lists of whole numbers, and matrices lists of rows. What lies past a list's end is read as 0, so that nothing here asks for lengths.
+-- Vectors are lists of whole numbers, and matrices lists of rows. What lies past a list's end is
+-- read as 0, so that nothing here asks for lengths.
 use Rattle.std.specs.Prelude.{ℕ, ℤ, pos, ◌+ℤ◌, ◌*ℤ◌, List, [], ◌∷◌, slice_index_or}
 
 -- the dot product: the sum of the products, entry by entry

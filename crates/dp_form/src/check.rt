@@ -1,10 +1,6 @@
 //! The check that squares show a matrix.
 ghost use Rattle.std.specs.Prelude.{◌≡◌, ◌<◌, ◌^◌, ◌*◌, ◌↔◌, ◌⊎◌, All, IsOk, IfErr, OnOk, length};
-ghost use Rattle.dp_form.specs.Vectors.{row};
-ghost use Rattle.dp_form.specs.Form.{IsNonNegative, IsSymmetric};
-ghost use Rattle.dp_form.specs.Residual.{residual};
-ghost use Rattle.dp_form.specs.Shown.{shortfall, IsShown, IsFirstShort};
-ghost use Rattle.dp_form.specs.Range.{IsWithin, IsSmallSquare};
+ghost use Rattle.dp_form.specs.{IsFirstShort, IsNonNegative, IsShown, IsSmallSquare, IsSymmetric, IsWithin, residual, row, shortfall};
 
 use super::residual::left_at;
 use super::{NotShown, Squares, Sym};

@@ -1,12 +1,9 @@
 //! The laws on quadratic forms, each the contract of a function that does nothing. They hold of vectors of any length.
 
-ghost use Rattle.dp_form.specs.Dominance.{DominantIsNonNegative, ShownIsNonNegative};
+ghost use Rattle.dp_form.specs.{AxesSplit, ClampShares, DominantIsNonNegative, FactorsCancel, FactorsKeepOrder, MixBelow, PlaneTriangle, ProductsAssociate, ProductsDistribute, ShortPairBound, ShownIsNonNegative, SquaresAreNonNegative};
 ghost use Rattle.dp_form.specs.Scaling.{Scaling};
-ghost use Rattle.dp_form.specs.Triangle.{PlaneTriangle, Triangle};
-ghost use Rattle.dp_form.specs.Mix.{Mix, MixBelow};
-ghost use Rattle.dp_form.specs.Axes.{AxesSplit, ShortPairBound};
-ghost use Rattle.dp_form.specs.Clamp.{ClampShares};
-ghost use Rattle.dp_form.specs.ProductLaws.{FactorsCancel, FactorsKeepOrder, ProductsAssociate, ProductsDistribute, SquaresAreNonNegative};
+ghost use Rattle.dp_form.specs.Triangle.{Triangle};
+ghost use Rattle.dp_form.specs.Mix.{Mix};
 
 /// The laws of `*` and `+`: products associate and distribute over sums.
 pub fn laws_of_products()

@@ -1,8 +1,6 @@
 //! The entries of a matrix less its squares.
 ghost use Rattle.std.specs.Prelude.{◌≡◌, ◌<◌, ◌+◌, ◌*◌, ◌^◌, pos, ◌*ℤ◌, All, slice_index_or, length};
-ghost use Rattle.dp_form.specs.Vectors.{row, entry};
-ghost use Rattle.dp_form.specs.Residual.{residual};
-ghost use Rattle.dp_form.specs.Range.{IsWithin, IsSmallSquare};
+ghost use Rattle.dp_form.specs.{IsSmallSquare, IsWithin, entry, residual, row};
 
 use super::{Square, Squares, Sym};
 
@@ -23,7 +21,9 @@ fn taken<const N: usize>(square: &Square<N>, i: usize, j: usize) -> i128
     requires i_in { i < N }
     requires j_in { j < N }
     requires small_square { IsSmallSquare square.now }
-    ensures value { result ≡ square.now.d *ℤ (slice_index_or square.now.l i (pos 0) *ℤ slice_index_or square.now.l j (pos 0)) }
+    ensures value { result
+        ≡ square.now.d
+        *ℤ (slice_index_or square.now.l i (pos 0) *ℤ slice_index_or square.now.l j (pos 0)) }
     ensures small { IsWithin (2 ^ 120) result }
     ensures wide { length square.now.l ≡ N }
 {

@@ -1,7 +1,6 @@
 //! Worked rows: matrices of three and of five rows, and what squares leave of them.
 ghost use Rattle.std.specs.Prelude.{◌≡◌, ◌<◌, ◌+◌, ◌^◌, pos, neg_ℤ, ◌≤ℤ◌, All, length};
-ghost use Rattle.dp_form.specs.Form.{IsSymmetric};
-ghost use Rattle.dp_form.specs.Range.{IsWithin, IsSmallSquare};
+ghost use Rattle.dp_form.specs.{IsSmallSquare, IsSymmetric, IsWithin};
 
 use super::residual::left_at;
 use super::{NotShown, Square, Squares, Sym, is_nonneg};

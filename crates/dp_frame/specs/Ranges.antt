@@ -1,9 +1,8 @@
 -- The ranges of what the lines of a record bring.
-use Rattle.std.specs.Prelude.{◌≡◌, ℕ, ◌+◌, ◌<◌, ◌^◌, ⊤, All, drop, None, IfSome}
+use Rattle.std.specs.Prelude.{◌≡◌, ℕ, ◌+◌, ◌<◌, ◌^◌, ⊤, All, drop, None}
 use Rattle.dp_plant.specs.declared.frames.Frame.{Frame}
-use Rattle.dp_plant.specs.declared.frames.Gust.{Gust}
 use Rattle.dp_plant.specs.Ranges.{IsVectorWithin}
-use Rattle.dp_plant.specs.FrameRanges.{IsFrameWithin}
+use Rattle.dp_plant.specs.FrameRanges.{IsFrameWithin, IsGustWithin}
 use Rattle.dp_frame.specs.declared.entry.Entry.{Entry}
 use Rattle.dp_frame.specs.declared.entry.Judged.{Judged}
 use Rattle.dp_frame.specs.declared.entry.Judged.TheVariants.{Good}
@@ -12,10 +11,6 @@ use Rattle.dp_frame.specs.declared.entry.Content.TheVariants.{At, Heading, Wind}
 use Rattle.dp_frame.specs.declared.feed.Feed.{Feed}
 use Rattle.dp_frame.specs.declared.feed.Feed.TheVariants.{Closed}
 use Rattle.dp_frame.specs.Wires.{IsWire}
-
--- below 360 degrees, and 100 m/s
-abbrev pub IsGustWithin : Gust → Type 0
-IsGustWithin gust = (gust.angle < 36000) × (gust.speed < 100000)
 
 abbrev pub IsContentWithin : Content → Type 0
 IsContentWithin (At place) = IsVectorWithin (2 ^ 43) place
@@ -33,11 +28,9 @@ abbrev pub IsJudgedWithin : ℕ → Judged → Type 0
 IsJudgedWithin groups (Good e) = IsEntryWithin groups e
 IsJudgedWithin groups other = ⊤
 
--- places, headings and winds are in range, and no group beyond the plant's reports
+-- what a computer reads is in range, and no group beyond the plant's reports
 pub record IsFrameInRange (groups : ℕ) (f : Frame) : Type 0 where
   pub within : IsFrameWithin f
-  pub headings : All (λ s. IfSome s.last (λ heading. heading < 36000)) f.gyro
-  pub winds : All (λ s. IfSome s.last IsGustWithin) f.wind
   pub lacking : All (λ s. s.last ≡ None) (drop groups f.group)
 
 -- the frames that an answer gives are in range

@@ -1,5 +1,6 @@
 -- The decimal numbers of a sentence's fields.
-use Rattle.std.specs.Prelude.{ℕ, ◌+◌, ◌-◌, ◌*◌, ◌^◌, List, Bool, ◌==◌, ◌&&◌, nat_lt, nat_le, length, take, unwrap_or}
+use Rattle.std.specs.Prelude.{ℕ, ◌+◌, ◌-◌, ◌*◌, ◌^◌, List, Bool, ◌==◌, ◌&&◌, nat_lt, nat_le, length, take, unwrap_or, if◌then◌else◌, Option, None}
+use Rattle.std.specs.Option.{option_map}
 use Rattle.std.specs.List.{before_first, after_first, list_all}
 use Rattle.std.specs.Char.{is_ascii_digit}
 use Rattle.dp_text.specs.Numbers.{decimal_of}
@@ -31,3 +32,7 @@ number digits = unwrap_or (decimal_of 18 digits) 0
 -- the first k decimals as a whole number of 10^-k: those past them are cut, those that are missing count as zeros
 unfoldable pub kept : ℕ → List ℕ → ℕ
 kept k decimals = number (take k decimals) * 10 ^ (k - length (take k decimals))
+
+-- a decimal as a whole number of 10^-k: the decimals past the first k are cut
+unfoldable pub scaled_of : ℕ → List ℕ → Option ℕ
+scaled_of k text = if is_decimal text then option_map (λ n. n * 10 ^ k + kept k (decimals text)) (decimal_of 20 (whole text)) else None

@@ -1,7 +1,7 @@
 -- Fields by their numbers, and checks in order: the first that fails names the reason.
-use Rattle.std.specs.Prelude.{ℕ, ◌-◌, List, slice_get, Option, Some, None, Result, Ok, Err}
+use Rattle.std.specs.Prelude.{ℕ, ◌-◌, Bool, true, false, List, slice_get, Option, Some, None, Result, Ok, Err}
 use Rattle.dp_nav.specs.declared.reading.Skip.{Skip}
-use Rattle.dp_nav.specs.declared.reading.Skip.TheVariants.{BadField}
+use Rattle.dp_nav.specs.declared.reading.Skip.TheVariants.{BadField, NotValid}
 
 infixl 10 ◌>>=◌
 abbrev pub ◌>>=◌ : {A B : Type 0} → Result A Skip → (A → Result B Skip) → Result B Skip
@@ -16,3 +16,8 @@ or_bad k None = Err (BadField k)
 -- field k, counted from 1
 abbrev pub field : ℕ → List (List ℕ) → Result (List ℕ) Skip
 field k fields = or_bad k (slice_get fields (k - 1))
+
+-- data that the sender calls valid, or not
+abbrev pub valid_of : Bool → Result (Unit {0}) Skip
+valid_of true = Ok tt
+valid_of false = Err NotValid

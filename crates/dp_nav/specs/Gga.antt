@@ -1,13 +1,12 @@
 -- The fields of a GGA sentence of IEC 61162-1, in the order in which they are checked.
-use Rattle.std.specs.Prelude.{ℕ, ◌+◌, ◌*◌, ◌^◌, List, [], ◌∷◌, Bool, true, false, ◌==◌, ◌&&◌, ◌||◌, nat_lt, nat_le, if◌then◌else◌, length, take, drop, ℤ, pos, neg_ℤ, Option, Some, None, Result, Ok, Err}
-use Rattle.dp_nav.specs.Fields.{◌>>=◌, or_bad, field}
+use Rattle.std.specs.Prelude.{ℕ, ◌+◌, ◌*◌, ◌^◌, List, [], ◌∷◌, Bool, true, false, ◌==◌, ◌&&◌, ◌||◌, nat_lt, nat_le, if◌then◌else◌, length, take, drop, ℤ, pos, neg_ℤ, Option, Some, None, Result, Ok}
+use Rattle.dp_nav.specs.Fields.{◌>>=◌, or_bad, field, valid_of}
 use Rattle.dp_nav.specs.Decimals.{whole, decimals, is_decimal, number, kept}
 use Rattle.dp_nav.specs.declared.gga.Axis.{Axis}
 use Rattle.dp_nav.specs.declared.gga.Axis.TheVariants.{Latitude, Longitude}
 use Rattle.dp_nav.specs.declared.reading.Reading.{Reading}
 use Rattle.dp_nav.specs.declared.reading.Reading.TheVariants as reading
 use Rattle.dp_nav.specs.declared.reading.Skip.{Skip}
-use Rattle.dp_nav.specs.declared.reading.Skip.TheVariants.{NotValid}
 
 -- whether a quality indicator is that of a fix: 1 to 5; or, of 0, 6, 7 and 8, of none
 abbrev pub is_fix_of : List ℕ → Option Bool
@@ -16,10 +15,6 @@ is_fix_of (digit ∷ []) =
     else if digit == 48 || nat_le 54 digit && nat_le digit 56 then Some false
     else None
 is_fix_of text = None
-
-abbrev pub valid_of : Bool → Result (Unit {0}) Skip
-valid_of true = Ok tt
-valid_of false = Err NotValid
 
 abbrev pub quality_of : List (List ℕ) → Result (Unit {0}) Skip
 quality_of fields = do

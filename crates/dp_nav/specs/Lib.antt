@@ -1,6 +1,10 @@
 pub mod Decimals
 pub mod Fields
+pub mod Turns
 pub mod Gga
+pub mod Hdt
+pub mod Ths
+pub mod Mwv
 pub mod Plain
 pub mod ReadingRanges
 pub mod Sensed

@@ -1,7 +1,8 @@
 //! Decimal numbers as they stand in fields: `4807.038`.
-ghost use Rattle.std.specs.Prelude.{◌≡◌, ◌<◌, ◌≤◌, ◌^◌, length, take, MatchOption, false, true};
+ghost use Rattle.std.specs.Prelude.{◌≡◌, ◌<◌, ◌≤◌, ◌^◌, length, take, IfSome, MatchOption, false, true};
 ghost use Rattle.std.specs.List.{list_all, position_or_len};
 ghost use Rattle.std.specs.Char.{is_ascii_digit};
+ghost use Rattle.dp_text.specs.Numbers.{decimal_of, digits_after};
 ghost use Rattle.dp_nav.specs.Decimals as Decimals;
 ghost use Rattle.dp_nav.specs.Decimals.{is_decimal, is_point};
 
@@ -102,4 +103,34 @@ pub(crate) fn kept(decimals: &[u8], k: usize) -> u64
 {
     let prefix = prefix(decimals, k);
     number(prefix) * 10u64.pow((k - prefix.len()) as u32)
+}
+
+/// The number of 1 to 20 digits.
+fn wide(digits: &[u8]) -> Option<u128>
+    ensures value { result ≡ decimal_of 20 digits.now }
+    ensures bound { IfSome result (λ n. n < 10 ^ 20) }
+{
+    if digits.is_empty() || digits.len() > MOST_DIGITS {
+        return None;
+    }
+    let mut number = 0u128;
+    for byte in digits {
+        if !byte.is_ascii_digit() {
+            return None;
+        }
+        number = number * 10 + u128::from(*byte - b'0');
+    }
+    Some(number)
+}
+
+/// The decimal that a text is, as a whole number of 10^-k.
+#[tactic(auto, unfolding(crate::specs::Decimals::scaled_of))]
+pub(crate) fn scaled(text: &[u8], k: usize) -> Option<u128>
+    requires { k ≤ 3 }
+    ensures value { result ≡ Decimals.scaled_of k text.now }
+    ensures bound { IfSome result (λ n. n < 10 ^ 24) }
+{
+    let decimal = Decimal::read(text)?;
+    let whole = wide(decimal.whole)?;
+    Some(whole * 10u128.pow(k as u32) + u128::from(kept(decimal.decimals, k)))
 }

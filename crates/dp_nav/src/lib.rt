@@ -1,11 +1,14 @@
 //! The readings of a record's lines: what a sentence of IEC 61162-1, or a plain form, says on the wire that it came on.
 //!
-//! [`sensed`] reads a sentence that [`dp_sentence::read`] took for sound. One formatter is read so far, on one kind of wire; any other
-//! sentence is [`Skip::OtherFormatter`].
+//! [`sensed`] reads a sentence that [`dp_sentence::read`] took for sound. Four formatters are read, each on one kind of wire; any
+//! other sentence is [`Skip::OtherFormatter`].
 //!
 //! | Formatter | Wire | Gives | Its fields, in the order in which they are checked |
 //! |---|---|---|---|
 //! | GGA | position | [`Reading::Fix`] | 6 quality, 2 latitude, 3 `N` or `S`, 4 longitude, 5 `E` or `W` |
+//! | HDT | gyro | [`Reading::Heading`] | 1 heading, 2 `T` |
+//! | THS | gyro | [`Reading::Heading`] | 2 mode, 1 heading |
+//! | MWV | wind | [`Reading::Wind`] | 5 status, 2 `R`, 1 angle, 3 speed, 4 unit, and then the range of the speed, as field 3 |
 //!
 //! Data fields are numbered from 1 after the address. The first check that fails names the reason: a field that is missing, not of its form
 //! or out of its range is [`Skip::BadField`] with its number, and data that the sender calls invalid are [`Skip::NotValid`]. Fields that are
@@ -21,8 +24,8 @@
 //!
 //! # What is proved
 //!
-//! Each call gives exactly what its definition says of all lines (`value`): `specs/Sensed` and `specs/Gga` for sentences, `specs/Plain` for
-//! plain forms. What it gives is within the ranges of [`Reading`] (`within`, `specs/ReadingRanges`). No call takes memory.
+//! Each call gives exactly what its definition says of all lines (`value`): `specs/Sensed`, `Gga`, `Hdt`, `Ths` and `Mwv` for sentences,
+//! `specs/Plain` for plain forms. What it gives is within the ranges of [`Reading`] (`within`, `specs/ReadingRanges`). No call takes memory.
 //!
 //! # How to read another formatter
 //!
@@ -32,11 +35,15 @@
 mod decimals;
 mod fields;
 mod gga;
+mod hdt;
+mod mwv;
 mod plain_forms;
 mod reading;
 mod sensing;
 #[cfg(test)]
 mod tests;
+mod ths;
+mod turns;
 
 pub use plain_forms::plain;
 pub use reading::{Reading, Skip, WireKind};

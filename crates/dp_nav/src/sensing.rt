@@ -3,7 +3,7 @@ ghost use Rattle.std.specs.Prelude.{◌≡◌, IfOk, map};
 ghost use Rattle.dp_nav.specs.ReadingRanges.{IsReadingWithin};
 ghost use Rattle.dp_nav.specs.Sensed.{sensed_of};
 
-use crate::{Reading, Skip, WireKind, gga};
+use crate::{Reading, Skip, WireKind, gga, hdt, mwv, ths};
 use dp_sentence::Sentence;
 
 /// The reading of a sentence of IEC 61162-1 on a wire of this kind.
@@ -18,6 +18,9 @@ pub fn sensed(kind: WireKind, s: &Sentence) -> Result<Reading, Skip>
 {
     match kind {
         WireKind::Position if s.formatter == b"GGA".as_slice() => gga::fix(s.fields.as_slice()),
+        WireKind::Gyro if s.formatter == b"HDT".as_slice() => hdt::heading(s.fields.as_slice()),
+        WireKind::Gyro if s.formatter == b"THS".as_slice() => ths::heading(s.fields.as_slice()),
+        WireKind::Wind if s.formatter == b"MWV".as_slice() => mwv::gust(s.fields.as_slice()),
         _ => Err(Skip::OtherFormatter),
     }
 }

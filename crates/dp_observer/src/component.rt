@@ -1,86 +1,54 @@
 //! One component of the plane, a cycle later.
-ghost use Rattle.std.specs.Prelude.{◌≡◌, ◌≤◌, ◌^◌, ◌↔◌, ◌*ℤ◌, ◌+ℤ◌, ◌-ℤ◌, unsigned_abs, IsTrue, SomeIff};
+ghost use Rattle.std.specs.Prelude.{◌≡◌, ◌≤◌, ◌^◌, ◌+ℤ◌, ◌-ℤ◌, ◌*ℤ◌, unsigned_abs, SomeIff};
 ghost use Rattle.dp_fixed.specs.Division.{floor_of};
 ghost use Rattle.dp_fixed.specs.Scale.{full_scale};
 ghost use Rattle.dp_plant.specs.declared.plane.Component.{Component};
 ghost use Rattle.dp_plant.specs.Observer.{component_next};
 ghost use Rattle.dp_plant.specs.Ranges.{IsComponentWithin, IsObserverGains};
 
+use crate::limit::coordinate;
+use crate::motion::{bias_next, place_next, velocity_next};
 use dp_fixed::{Q, difference, floor_div, product, sum};
 use dp_plant::{Component, Gains};
 
-/// No coordinate of a plane's state is farther from zero.
-const LIMIT: i128 = 1 << 56;
-
-/// The scale of gains.
-const ONE: i64 = 1 << 30;
-
-fn eta_next(gains: &Gains, eta: i64, vel: i64, off: i128) -> i128
-    requires gains { IsObserverGains gains.now }
-    requires eta { unsigned_abs eta ≤ 2 ^ 56 }
-    requires vel { unsigned_abs vel ≤ 2 ^ 56 }
-    requires off { unsigned_abs off ≤ 2 ^ 57 }
-    ensures { result ≡ floor_of ((full_scale *ℤ (eta +ℤ vel)) +ℤ (gains.now.k2 *ℤ off)) full_scale }
+/// How far the measured place is from the estimate, the motion by waves taken off.
+fn offset(x: Component, y: i64) -> i128
+    requires state { IsComponentWithin x }
+    requires place { unsigned_abs y ≤ 2 ^ 44 }
+    ensures value { result ≡ (y -ℤ x.eta) -ℤ x.wave_q }
+    ensures bound { unsigned_abs result ≤ 2 ^ 58 }
 {
-    let moved = sum(eta as i128, vel as i128);
-    let whole = sum(product(ONE, moved), product(gains.k2, off));
+    difference(difference(y as i128, x.eta as i128), x.wave_q as i128)
+}
+
+/// A wave state a cycle later, by its row of the filter's matrix and its gain on the offset.
+fn wave_next(by_p: i64, by_q: i64, by_place: i64, p: i64, q: i64, off: i128) -> i128
+    requires by_p { unsigned_abs by_p ≤ 2 ^ 30 }
+    requires by_q { unsigned_abs by_q ≤ 2 ^ 30 }
+    requires by_place { unsigned_abs by_place ≤ 2 ^ 30 }
+    requires p { unsigned_abs p ≤ 2 ^ 56 }
+    requires q { unsigned_abs q ≤ 2 ^ 56 }
+    requires off { unsigned_abs off ≤ 2 ^ 58 }
+    ensures { let swung = (by_p *ℤ p) +ℤ (by_q *ℤ q) in
+        result ≡ floor_of (swung +ℤ (by_place *ℤ off)) full_scale }
+{
+    let swung = sum(product(by_p, p as i128), product(by_q, q as i128));
+    let whole = sum(swung, product(by_place, off));
     floor_div(whole, Q)
-}
-
-fn beta_next(gains: &Gains, beta: i64, off: i128) -> i128
-    requires gains { IsObserverGains gains.now }
-    requires beta { unsigned_abs beta ≤ 2 ^ 56 }
-    requires off { unsigned_abs off ≤ 2 ^ 57 }
-    ensures { result ≡ floor_of (((full_scale *ℤ beta) -ℤ (gains.now.leak *ℤ beta)) +ℤ (gains.now.k3 *ℤ off)) full_scale }
-{
-    let kept = difference(product(ONE, beta as i128), product(gains.leak, beta as i128));
-    let whole = sum(kept, product(gains.k3, off));
-    floor_div(whole, Q)
-}
-
-fn coasted(damp: i64, beta: i64, vel: i64) -> i128
-    requires damp { unsigned_abs damp ≤ 2 ^ 30 }
-    requires beta { unsigned_abs beta ≤ 2 ^ 56 }
-    requires vel { unsigned_abs vel ≤ 2 ^ 56 }
-    ensures value { result ≡ ((full_scale *ℤ vel) -ℤ (damp *ℤ vel)) +ℤ (full_scale *ℤ beta) }
-    ensures bound { unsigned_abs result ≤ 2 ^ 90 }
-{
-    let kept = difference(product(ONE, vel as i128), product(damp, vel as i128));
-    sum(kept, product(ONE, beta as i128))
-}
-
-fn vel_next(gains: &Gains, beta: i64, vel: i64, push: i128, off: i128) -> i128
-    requires gains { IsObserverGains gains.now }
-    requires beta { unsigned_abs beta ≤ 2 ^ 56 }
-    requires vel { unsigned_abs vel ≤ 2 ^ 56 }
-    requires push { unsigned_abs push ≤ 2 ^ 92 }
-    requires off { unsigned_abs off ≤ 2 ^ 57 }
-    ensures { result ≡ floor_of (((((full_scale *ℤ vel) -ℤ (gains.now.damp *ℤ vel)) +ℤ (full_scale *ℤ beta)) +ℤ push) +ℤ (gains.now.k4 *ℤ off)) full_scale }
-{
-    let pushed = sum(coasted(gains.damp, beta, vel), push);
-    let whole = sum(pushed, product(gains.k4, off));
-    floor_div(whole, Q)
-}
-
-fn is_within(x: i128) -> bool
-    ensures { IsTrue result ↔ (unsigned_abs x ≤ 2 ^ 56) }
-{
-    -LIMIT <= x && x <= LIMIT
 }
 
 /// These numbers, where each is within the limit.
-fn within(eta: i128, beta: i128, vel: i128) -> Option<Component>
-    ensures { let x : Component = record { eta = eta; beta = beta; vel = vel } in SomeIff result (IsComponentWithin x) x }
+fn within(eta: i128, beta: i128, vel: i128, wave_p: i128, wave_q: i128) -> Option<Component>
+    ensures { let x : Component = record { eta = eta; beta = beta; vel = vel; wave_p = wave_p; wave_q = wave_q } in
+        SomeIff result (IsComponentWithin x) x }
 {
-    if is_within(eta) && is_within(beta) && is_within(vel) {
-        Some(Component {
-            eta: eta as i64,
-            beta: beta as i64,
-            vel: vel as i64,
-        })
-    } else {
-        None
-    }
+    Some(Component {
+        eta: coordinate(eta)?,
+        beta: coordinate(beta)?,
+        vel: coordinate(vel)?,
+        wave_p: coordinate(wave_p)?,
+        wave_q: coordinate(wave_q)?,
+    })
 }
 
 /// One component a cycle later, where it stays within the limit.
@@ -89,11 +57,14 @@ pub(crate) fn component(gains: &Gains, x: Component, y: i64, push: i128) -> Opti
     requires state { IsComponentWithin x }
     requires place { unsigned_abs y ≤ 2 ^ 44 }
     requires push { unsigned_abs push ≤ 2 ^ 92 }
-    ensures { SomeIff result (IsComponentWithin (component_next gains.now x y push)) (component_next gains.now x y push) }
+    ensures { let later = component_next gains.now x y push in SomeIff result (IsComponentWithin later) later }
 {
-    let off = difference(y as i128, x.eta as i128);
-    let eta = eta_next(gains, x.eta, x.vel, off);
-    let beta = beta_next(gains, x.beta, off);
-    let vel = vel_next(gains, x.beta, x.vel, push, off);
-    within(eta, beta, vel)
+    let off = offset(x, y);
+    let eta = place_next(gains.k2, x.eta, x.vel, off);
+    let beta = bias_next(gains.leak, gains.k3, x.beta, off);
+    let vel = velocity_next(gains.damp, gains.k4, x.beta, x.vel, push, off);
+    let wave = gains.wave;
+    let wave_p = wave_next(wave[0], wave[1], gains.k1[0], x.wave_p, x.wave_q, off);
+    let wave_q = wave_next(wave[2], wave[3], gains.k1[1], x.wave_p, x.wave_q, off);
+    within(eta, beta, vel, wave_p, wave_q)
 }

@@ -15,7 +15,8 @@ mode_letter Off = 79
 
 -- the line of a cycle: its number, and how each computer takes part
 unfoldable pub cycle_line : ℕ → List Mode → List ℕ
-cycle_line cycle modes = codes "cycle " ++ (decimal cycle ++ (codes " " ++ (map mode_letter modes ++ codes "\n")))
+cycle_line cycle modes =
+    codes "cycle " ++ (decimal cycle ++ (codes " " ++ (map mode_letter modes ++ codes "\n")))
 
 -- a ballot: F, H or Z for fresh, held or zero, and the voted force
 unfoldable pub ballot_text : Ballot → List ℕ
@@ -30,8 +31,10 @@ order_text None = codes " -"
 
 -- the line of thruster k: its ballot, and the orders that its voter holds
 unfoldable pub thruster_line : ℕ → Ballot → List (Option ℤ) → List ℕ
-thruster_line k ballot orders = codes "t" ++ (decimal k ++ (ballot_text ballot ++ (flat_map order_text orders ++ codes "\n")))
+thruster_line k ballot orders =
+    codes "t" ++ (decimal k ++ (ballot_text ballot ++ (flat_map order_text orders ++ codes "\n")))
 
 -- the lines of thrusters 0, 1, 2 and so on
 unfoldable pub thruster_lines : List Ballot → List (List (Option ℤ)) → List ℕ
-thruster_lines ballots held = flat_map (λ row. thruster_line row.0 row.1.0 row.1.1) (enumerate_from 0 (zip ballots held))
+thruster_lines ballots held =
+    flat_map (λ row. thruster_line row.0 row.1.0 row.1.1) (enumerate_from 0 (zip ballots held))

@@ -1,8 +1,7 @@
 //! What a cycle's text tells, and the text.
 ghost use Rattle.std.specs.Prelude.{◌≡◌, ◌≤◌, ◌+◌, ◌*◌, ◌++◌};
 ghost use Rattle.arrayvec.specs.ArrayVec.{array_vec_len};
-ghost use Rattle.dp_report.specs.Block.{block_text, block_value};
-ghost use Rattle.dp_report.specs.Text.{thruster_lines};
+ghost use Rattle.dp_report.specs.{block_text, block_value, thruster_lines};
 
 use crate::text::{cycle_line, thruster_line};
 use arrayvec::ArrayVec;
@@ -30,7 +29,8 @@ fn append_thrusters(
 )
     requires lengths { array_vec_len ballots.now ≡ array_vec_len held.now }
     requires room { array_vec_len into.old + 108 * 12 ≤ TEXT }
-    ensures text { into.new.items ≡ into.old.items ++ thruster_lines ballots.now.items held.now.items }
+    ensures text { into.new.items
+        ≡ into.old.items ++ thruster_lines ballots.now.items held.now.items }
     ensures len { array_vec_len into.new ≤ array_vec_len into.old + 108 * 12 }
 {
     let ballots = ballots.as_slice();

@@ -4,7 +4,7 @@ ghost use Rattle.std.specs.List.{flat_map};
 ghost use Rattle.std.specs.Fmt.{signed_decimal};
 ghost use Rattle.arrayvec.specs.ArrayVec.{array_vec_len};
 ghost use Rattle.dp_report.specs.Text as Text;
-ghost use Rattle.dp_report.specs.Text.{ballot_text, mode_letter, order_text};
+ghost use Rattle.dp_report.specs.{ballot_text, mode_letter, order_text};
 
 use arrayvec::ArrayVec;
 use dp_plant::{Ballot, Mode};

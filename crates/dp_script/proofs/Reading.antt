@@ -4,10 +4,10 @@ use Rattle.std.proofs.lemmas.List.{append-nil, reverse-append}
 use Rattle.std.proofs.lemmas.List.Elements.{filter_map-append}
 use Rattle.std.proofs.lemmas.Grind.{flat_map-append}
 use Rattle.dp_script.specs.declared.draft.Draft.{Draft}
-use Rattle.dp_script.specs.declared.event.Event.{Event}
+use Rattle.dp_script.specs.declared.timed_act.TimedAct.{TimedAct}
 use Rattle.dp_script.specs.declared.fault.ScriptFault.{ScriptFault}
 use Rattle.dp_script.specs.Drafts.{IsDraftOf}
-use Rattle.dp_script.specs.Events.{events_of, events_by}
+use Rattle.dp_script.specs.TimedActs.{timed_acts_of, timed_acts_by}
 use Rattle.dp_script.specs.Faults.{said_by, entries_of, first_fault}
 
 -- a draft of all lines but those that are left
@@ -44,12 +44,12 @@ stands_fault draft line left rest all fault stands e bad =
 pub stands_end : (draft : Draft) (left all : List (List ℕ)) → Stands draft left all → left ≡ [] → first_fault (reverse all) ≡ None
 stands_end draft left all stands e = rw (← stands.rest, e) stands.heard.clean
 
-events_by-append : (xs ys : List (List ℕ)) → events_by (xs ++ ys) ≡ events_by xs ++ events_by ys
-events_by-append xs ys = rw (filter_map-append said_by xs ys) (flat_map-append events_of (entries_of xs) (entries_of ys))
+timed_acts_by-append : (xs ys : List (List ℕ)) → timed_acts_by (xs ++ ys) ≡ timed_acts_by xs ++ timed_acts_by ys
+timed_acts_by-append xs ys = rw (filter_map-append said_by xs ys) (flat_map-append timed_acts_of (entries_of xs) (entries_of ys))
 
 -- what a line says goes from what is left to what is done
-pub events_more : (done new all : List Event) (line : List ℕ) (left rest : List (List ℕ)) → done ++ events_by left ≡ all → left ≡ line ∷ rest → new ≡ done ++ events_by (line ∷ []) → new ++ events_by rest ≡ all
-events_more done new all line left rest so_far e more = rw (more, append_assoc, ← events_by-append (line ∷ []) rest) (rw e at so_far)
+pub timed_acts_more : (done new all : List TimedAct) (line : List ℕ) (left rest : List (List ℕ)) → done ++ timed_acts_by left ≡ all → left ≡ line ∷ rest → new ≡ done ++ timed_acts_by (line ∷ []) → new ++ timed_acts_by rest ≡ all
+timed_acts_more done new all line left rest so_far e more = rw (more, append_assoc, ← timed_acts_by-append (line ∷ []) rest) (rw e at so_far)
 
-pub events_end : (done all : List Event) (left : List (List ℕ)) → done ++ events_by left ≡ all → left ≡ [] → done ≡ all
-events_end done all left so_far e = sym (append-nil done) ∙ (rw e at so_far)
+pub timed_acts_end : (done all : List TimedAct) (left : List (List ℕ)) → done ++ timed_acts_by left ≡ all → left ≡ [] → done ≡ all
+timed_acts_end done all left so_far e = sym (append-nil done) ∙ (rw e at so_far)

@@ -3,7 +3,8 @@ use Rattle.std.specs.Prelude.{◌<◌, ◌≤◌, ◌^◌, List, [], ◌∷◌, 
 use Rattle.dp_script.specs.declared.act.Act.{Act}
 use Rattle.dp_script.specs.declared.act.Act.TheVariants.{Run, Order, Orders, Skew, Say, Stop}
 
--- the acts of a cycle that no line names: each computer runs, then the orders of each go to all voters
+-- the acts of a cycle that no line names: each computer runs, then the orders of each go to all
+-- voters
 abbrev pub usual_acts : List Act
 usual_acts = Run 0 ∷ Run 1 ∷ Run 2 ∷ Orders 0 ∷ Orders 1 ∷ Orders 2 ∷ []
 

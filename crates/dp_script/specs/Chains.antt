@@ -3,7 +3,8 @@ use Rattle.std.specs.Prelude.{Option, Some, None, Result, Ok, Err}
 use Rattle.dp_script.specs.declared.fault.ScriptKind.{ScriptKind}
 
 infixl 10 ◌>>=◌
-abbrev pub ◌>>=◌ : {A B : Type 0} → Result A ScriptKind → (A → Result B ScriptKind) → Result B ScriptKind
+abbrev pub ◌>>=◌ : {A B : Type 0} → Result A ScriptKind → (A → Result B ScriptKind)
+    → Result B ScriptKind
 (Ok x) >>= f = f x
 (Err kind) >>= f = Err kind
 

@@ -2,7 +2,7 @@
 use Rattle.std.specs.Prelude.{◌≡◌, ℕ, ◌≤◌, List, length, None}
 use Rattle.std.specs.List.{All}
 use Rattle.dp_script.specs.declared.draft.Draft.{Draft}
-use Rattle.dp_script.specs.declared.event.Event.{Event}
+use Rattle.dp_script.specs.declared.timed_act.TimedAct.{TimedAct}
 use Rattle.dp_script.specs.Faults.{entries_of, last_cycle, first_fault}
 
 -- a draft of these lines, newest first, none of which is faulty
@@ -12,6 +12,6 @@ pub record IsDraftOf (draft : Draft) (before : List (List ℕ)) : Type 0 where
   pub last : draft.last ≡ last_cycle (entries_of before)
   pub clean : first_fault before ≡ None
 
--- no event is after the last cycle
+-- no timed act is after the last cycle
 abbrev pub IsPassed : Draft → Type 0
-IsPassed draft = All (λ (event : Event). event.cycle ≤ draft.last) draft.script
+IsPassed draft = All (λ (timed_act : TimedAct). timed_act.cycle ≤ draft.last) draft.script

@@ -53,7 +53,8 @@ abbrev pub listed : Acts → List Act
 listed acts.Usual = usual_acts
 listed (acts.One act) = act ∷ []
 
--- what a line that isn't skipped says, with the first of its faults in the order Verb, Number, Range
+-- what a line that isn't skipped says, with the first of its faults in the order Verb, Number,
+-- Range
 unfoldable pub entry_of : List ℕ → Result Entry ScriptKind
 entry_of line = do
   said ← phrase_of line

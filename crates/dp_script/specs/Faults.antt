@@ -42,12 +42,14 @@ fault_of_entry before (Ok entry) = fault_after before entry
 
 -- the fault of a line after those before it: its own, or that of what it says
 unfoldable pub fault_of : List (List ℕ) → List ℕ → Option ScriptKind
-fault_of before line = if is_skipped line then None else fault_of_entry (entries_of before) (entry_of line)
+fault_of before line =
+    if is_skipped line then None else fault_of_entry (entries_of before) (entry_of line)
 
 -- the first faulty line, lines counted from 1
 unfoldable pub first_fault : List (List ℕ) → Option ScriptFault
 first_fault [] = None
-first_fault (line ∷ before) = option_or (first_fault before) (option_map (Line (length before + 1)) (fault_of before line))
+first_fault (line ∷ before) =
+    option_or (first_fault before) (option_map (Line (length before + 1)) (fault_of before line))
 
 -- the first faulty line of a text
 abbrev pub fault_in : List ℕ → Option ScriptFault

@@ -1,6 +1,6 @@
 ghost use Rattle.std.specs.Prelude.{◌≡◌, map};
-ghost use Rattle.dp_text.specs.Parts.{texts_of};
-ghost use Rattle.dp_script.specs.Commands.{verb_of, whole_of, signed_of, command_of, phrase_of_parts, phrase_of};
+ghost use Rattle.dp_text.specs.{texts_of};
+ghost use Rattle.dp_script.specs.{command_of, phrase_of, phrase_of_parts, signed_of, verb_of, whole_of};
 
 use crate::ScriptKind;
 use dp_text::{decimal, number, split_parts};

@@ -3,7 +3,7 @@ ghost use Rattle.std.specs.Prelude.{◌≡◌, ◌≢◌, ◌<◌, ◌≤◌, �
 ghost use Rattle.std.specs.Result.{result_err};
 ghost use Rattle.dp_script.specs.Drafts.{IsDraftOf, IsPassed};
 ghost use Rattle.dp_script.specs.Entries.{IsGiven};
-ghost use Rattle.dp_script.specs.Events.{events_by, events_of};
+ghost use Rattle.dp_script.specs.TimedActs.{timed_acts_by, timed_acts_of};
 ghost use Rattle.dp_script.specs.Faults as Faults;
 ghost use Rattle.dp_script.specs.Faults.{fault_of, first_fault, said_by};
 
@@ -56,7 +56,8 @@ impl Draft {
     #[tactic(auto, unfolding(crate::specs::Faults::said_by, crate::specs::Faults::fault_of))]
     fn judge(&self, line: &[u8]) -> Result<Option<Entry>, ScriptKind>
         ensures said { IfOk result (λ said. said_by line.now ≡ said) }
-        ensures fault { (before : List (List ℕ)) → IsDraftOf self.now before → fault_of before line.now ≡ result_err result }
+        ensures fault { (before : List (List ℕ)) → IsDraftOf self.now before
+            → fault_of before line.now ≡ result_err result }
         ensures order { IfOk result (λ said. IfSome said (λ entry. self.now.last ≤ entry.cycle)) }
         ensures few { IfOk result (λ said. IfSome said (λ entry. self.now.count < 2 ^ 16)) }
         ensures within { IfOk result (λ said. IfSome said (λ entry. IsGiven entry.acts)) }
@@ -82,7 +83,7 @@ impl Draft {
         requires room { self.old.number < 2 ^ 63 }
         requires within { IsGiven entry.acts }
         ensures passed { OnOk result (IsPassed self.new) }
-        ensures script { OnOk result (self.new.script ≡ self.old.script ++ events_of entry) }
+        ensures script { OnOk result (self.new.script ≡ self.old.script ++ timed_acts_of entry) }
         ensures number { OnOk result (self.new.number ≡ self.old.number + 1) }
         ensures count { OnOk result (self.new.count ≡ self.old.count + 1) }
         ensures last { OnOk result (self.new.last ≡ entry.cycle) }
@@ -101,8 +102,11 @@ impl Draft {
         requires room { self.old.number < 2 ^ 63 }
         ensures passed { OnOk result (IsPassed self.new) }
         ensures number { OnOk result (self.new.number ≡ self.old.number + 1) }
-        ensures script { OnOk result (self.new.script ≡ self.old.script ++ events_by (line.now ∷ [])) }
-        ensures heard { OnOk result ((before : List (List ℕ)) → IsDraftOf self.old before → IsDraftOf self.new (line.now ∷ before)) }
+        ensures script { OnOk result
+            (self.new.script ≡ self.old.script ++ timed_acts_by (line.now ∷ [])) }
+        ensures heard { OnOk result
+            ((before : List (List ℕ)) → IsDraftOf self.old before
+            → IsDraftOf self.new (line.now ∷ before)) }
         ensures fault { IfErr result (λ fault. fault ≢ Memory → (before : List (List ℕ)) → IsDraftOf self.old before
             → first_fault (line.now ∷ before) ≡ Some fault) }
     {

@@ -1,5 +1,5 @@
 ghost use Rattle.std.specs.Prelude.{◌≡◌, ◌<◌, ◌≤◌, ◌^◌, IfOk, unsigned_abs};
-ghost use Rattle.dp_script.specs.Entries.{below_of, near_of, acts_of, entry_of, IsGiven};
+ghost use Rattle.dp_script.specs.{IsGiven, acts_of, below_of, entry_of, near_of};
 
 use crate::ScriptKind;
 use crate::act::Act;

@@ -29,17 +29,17 @@
 //! 4. `Order`: the cycle is less than that of the last line before it that wasn't skipped.
 //!
 //! `specs/` has this as definitions on the whole text: what a line says (`Commands`, `Entries`), the first faulty line, each judged with
-//! the lines before it (`Faults`), and the acts of a cycle (`Events`). `Script::of` reads the bytes once; `len` and `act` search for the
+//! the lines before it (`Faults`), and the acts of a cycle (`TimedActs`). `Script::of` reads the bytes once; `len` and `act` search for the
 //! cycle and take no memory.
 #![tactic(auto)]
 
 mod act;
-mod draft;
 mod command;
+mod draft;
 mod entry;
-mod event;
 mod fault;
 mod script;
+mod timed_act;
 mod usual;
 
 pub use act::{Act, P2};

@@ -1,19 +1,19 @@
 ghost use Rattle.std.specs.Prelude.{◌≡◌, ◌≢◌, ℕ, None, IfErr, IfOk, false, ◌<◌, ◌≤◌, ◌-◌, ◌++◌, [], ◌∷◌, ◌==◌, All, List, OnOk, Some, length, slice_get, filter, map, take, drop};
 ghost use Rattle.std.specs.List.{AllWithin};
 ghost use Rattle.std.specs.List.Sorted.{IsNonDecreasingBy};
-ghost use Rattle.dp_script.specs.declared.event.Event.{Event};
+ghost use Rattle.dp_script.specs.declared.timed_act.TimedAct.{TimedAct};
 ghost use Rattle.dp_script.specs.Acts.{usual_acts, IsWithin};
 ghost use Rattle.dp_script.specs.Entries.{IsGiven};
-ghost use Rattle.dp_text.specs.Lines.{lines_of};
-ghost use Rattle.dp_script.specs.declared.fault.ScriptFault.TheVariants.{Memory};
 ghost use Rattle.dp_script.specs.Faults.{fault_in};
-ghost use Rattle.dp_script.specs.Events.{acts_at, acts_in, events_by, events_of, events_with, IsScript};
+ghost use Rattle.dp_script.specs.TimedActs.{acts_at, acts_in, timed_acts_by, timed_acts_of, timed_acts_with, IsScript};
+ghost use Rattle.dp_text.specs.{lines_of};
+ghost use Rattle.dp_script.specs.declared.fault.ScriptFault.TheVariants.{Memory};
 
 use crate::ScriptFault;
 use crate::act::Act;
 use crate::draft::Draft;
 use crate::entry::{Acts, Entry};
-use crate::event::Event;
+use crate::timed_act::TimedAct;
 use crate::usual::{USUAL, usual};
 use dp_text::next_line;
 use std::alloc::{AllocError, Global};
@@ -22,15 +22,15 @@ use std::marker::Model;
 /// A script without a faulty line, seen as its acts in order, each with its cycle.
 #[derive(Drop)]
 pub struct Script {
-    events: Vec<Event>,
+    timed_acts: Vec<TimedAct>,
 }
 
 impl Model for Script {
-    ghost Value = { List Event };
+    ghost Value = { List TimedAct };
 
-    ghost view = { λ s. s.events.items };
+    ghost view = { λ s. s.timed_acts.items };
 
-    ghost invariant = { λ s. IsScript s.events.items };
+    ghost invariant = { λ s. IsScript s.timed_acts.items };
 }
 
 impl Script {
@@ -39,27 +39,27 @@ impl Script {
         ensures { result ≡ [] }
     {
         Script {
-            events: Vec::new(alloc),
+            timed_acts: Vec::new(alloc),
         }
     }
 
     /// Adds an act of a cycle that isn't before those that are there.
-    fn push(&mut self, event: Event) -> Result<(), AllocError>
-        requires order { All (λ earlier. earlier.cycle ≤ event.cycle) self.old }
-        requires within { IsWithin event.act }
-        ensures ok { OnOk result (self.new ≡ self.old ++ event ∷ []) }
+    fn push(&mut self, timed_act: TimedAct) -> Result<(), AllocError>
+        requires order { All (λ earlier. earlier.cycle ≤ timed_act.cycle) self.old }
+        requires within { IsWithin timed_act.act }
+        ensures ok { OnOk result (self.new ≡ self.old ++ timed_act ∷ []) }
     {
-        self.events.push(event)?;
+        self.timed_acts.push(timed_act)?;
         Ok(())
     }
 
     /// Adds the usual acts of a cycle that isn't before those that are there.
     fn push_usual(&mut self, cycle: u64) -> Result<(), AllocError>
         requires order { All (λ earlier. earlier.cycle ≤ cycle) self.old }
-        ensures ok { OnOk result (self.new ≡ self.old ++ events_with cycle usual_acts) }
+        ensures ok { OnOk result (self.new ≡ self.old ++ timed_acts_with cycle usual_acts) }
     {
         for i in 0..USUAL {
-            self.push(Event {
+            self.push(TimedAct {
                 cycle,
                 act: usual(i),
             })?;
@@ -71,11 +71,11 @@ impl Script {
     pub(crate) fn enter(&mut self, entry: Entry) -> Result<(), AllocError>
         requires order { All (λ earlier. earlier.cycle ≤ entry.cycle) self.old }
         requires within { IsGiven entry.acts }
-        ensures ok { OnOk result (self.new ≡ self.old ++ events_of entry) }
+        ensures ok { OnOk result (self.new ≡ self.old ++ timed_acts_of entry) }
     {
         match entry.acts {
             Acts::Usual => self.push_usual(entry.cycle),
-            Acts::One(act) => self.push(Event {
+            Acts::One(act) => self.push(TimedAct {
                 cycle: entry.cycle,
                 act,
             }),
@@ -83,53 +83,57 @@ impl Script {
     }
 }
 
-/// How many events are before a cycle.
-fn count_before(events: &[Event], cycle: u64) -> usize
-    requires { IsNonDecreasingBy (λ (event : Event). event.cycle) events.now }
-    ensures bound { result ≤ length events.now }
-    ensures below { AllWithin (λ event. event.cycle < cycle) events.now 0 result }
-    ensures rest { AllWithin (λ event. cycle ≤ event.cycle) events.now result (length events.now) }
+/// How many timed acts are before a cycle.
+fn count_before(timed_acts: &[TimedAct], cycle: u64) -> usize
+    requires { IsNonDecreasingBy (λ (timed_act : TimedAct). timed_act.cycle) timed_acts.now }
+    ensures bound { result ≤ length timed_acts.now }
+    ensures below { AllWithin (λ timed_act. timed_act.cycle < cycle) timed_acts.now 0 result }
+    ensures rest { AllWithin (λ timed_act. cycle ≤ timed_act.cycle) timed_acts.now result (length timed_acts.now) }
 {
-    events.partition_point(|event| event.cycle < cycle)
+    timed_acts.partition_point(|timed_act| timed_act.cycle < cycle)
 }
 
-/// How many events are not after a cycle.
-fn count_through(events: &[Event], cycle: u64) -> usize
-    requires { IsNonDecreasingBy (λ (event : Event). event.cycle) events.now }
-    ensures bound { result ≤ length events.now }
-    ensures below { AllWithin (λ event. event.cycle ≤ cycle) events.now 0 result }
-    ensures rest { AllWithin (λ event. cycle < event.cycle) events.now result (length events.now) }
+/// How many timed acts are not after a cycle.
+fn count_through(timed_acts: &[TimedAct], cycle: u64) -> usize
+    requires { IsNonDecreasingBy (λ (timed_act : TimedAct). timed_act.cycle) timed_acts.now }
+    ensures bound { result ≤ length timed_acts.now }
+    ensures below { AllWithin (λ timed_act. timed_act.cycle ≤ cycle) timed_acts.now 0 result }
+    ensures rest { AllWithin (λ timed_act. cycle < timed_act.cycle) timed_acts.now result (length timed_acts.now) }
 {
-    events.partition_point(|event| event.cycle <= cycle)
+    timed_acts.partition_point(|timed_act| timed_act.cycle <= cycle)
 }
 
-/// Where the events of a cycle begin and end.
-fn span(events: &[Event], cycle: u64) -> (usize, usize)
-    requires { IsNonDecreasingBy (λ (event : Event). event.cycle) events.now }
+/// Where the timed acts of a cycle begin and end.
+fn span(timed_acts: &[TimedAct], cycle: u64) -> (usize, usize)
+    requires { IsNonDecreasingBy (λ (timed_act : TimedAct). timed_act.cycle) timed_acts.now }
     ensures order { result.0 ≤ result.1 }
-    ensures bound { result.1 ≤ length events.now }
-    ensures events { take (result.1 - result.0) (drop result.0 events.now) ≡ filter (λ event. event.cycle == cycle) events.now }
+    ensures bound { result.1 ≤ length timed_acts.now }
+    ensures timed_acts { take (result.1 - result.0) (drop result.0 timed_acts.now)
+        ≡ filter (λ timed_act. timed_act.cycle == cycle) timed_acts.now }
 {
-    (count_before(events, cycle), count_through(events, cycle))
+    (
+        count_before(timed_acts, cycle),
+        count_through(timed_acts, cycle),
+    )
 }
 
-/// The events of a cycle.
-fn named(events: &[Event], cycle: u64) -> &[Event]
-    requires { IsNonDecreasingBy (λ (event : Event). event.cycle) events.now }
-    ensures { result.now ≡ filter (λ event. event.cycle == cycle) events.now }
+/// The timed acts of a cycle.
+fn named(timed_acts: &[TimedAct], cycle: u64) -> &[TimedAct]
+    requires { IsNonDecreasingBy (λ (timed_act : TimedAct). timed_act.cycle) timed_acts.now }
+    ensures { result.now ≡ filter (λ timed_act. timed_act.cycle == cycle) timed_acts.now }
 {
-    let (start, end) = span(events, cycle);
-    &events[start..end]
+    let (start, end) = span(timed_acts, cycle);
+    &timed_acts[start..end]
 }
 
-/// The act of an event, by its place.
-fn act_at(events: &[Event], i: usize) -> Act
-    requires place { i < length events.now }
-    requires within { All (λ event. IsWithin event.act) events.now }
-    ensures value { slice_get (map (λ (event : Event). event.act) events.now) i ≡ Some result }
+/// The act of an timed act, by its place.
+fn act_at(timed_acts: &[TimedAct], i: usize) -> Act
+    requires place { i < length timed_acts.now }
+    requires within { All (λ timed_act. IsWithin timed_act.act) timed_acts.now }
+    ensures value { slice_get (map (λ (timed_act : TimedAct). timed_act.act) timed_acts.now) i ≡ Some result }
     ensures within { IsWithin result }
 {
-    events[i].act.copy()
+    timed_acts[i].act.copy()
 }
 
 impl Script {
@@ -137,8 +141,9 @@ impl Script {
     pub fn of(alloc: Global, bytes: &[u8]) -> Result<Script, ScriptFault>
         ensures clean { OnOk result (fault_in bytes.now ≡ None) }
         ensures fault { IfErr result (λ fault. fault ≢ Memory → fault_in bytes.now ≡ Some fault) }
-        ensures events { IfOk result (λ script. script ≡ events_by (lines_of false bytes.now)) }
-        ensures acts { IfOk result (λ script. (cycle : ℕ) → acts_at cycle script ≡ acts_in cycle bytes.now) }
+        ensures timed_acts { IfOk result (λ script. script ≡ timed_acts_by (lines_of false bytes.now)) }
+        ensures acts { IfOk result
+            (λ script. (cycle : ℕ) → acts_at cycle script ≡ acts_in cycle bytes.now) }
     {
         let mut draft = Draft::new(alloc);
         let mut rest = bytes;
@@ -153,7 +158,7 @@ impl Script {
     pub fn len(&self, cycle: u64) -> usize
         ensures { result ≡ length (acts_at cycle self.now) }
     {
-        let named = named(self.events.as_slice(), cycle);
+        let named = named(self.timed_acts.as_slice(), cycle);
         if named.is_empty() { USUAL } else { named.len() }
     }
 
@@ -163,7 +168,7 @@ impl Script {
         ensures value { slice_get (acts_at cycle self.now) i ≡ Some result }
         ensures within { IsWithin result }
     {
-        let named = named(self.events.as_slice(), cycle);
+        let named = named(self.timed_acts.as_slice(), cycle);
         if named.is_empty() {
             usual(i)
         } else {

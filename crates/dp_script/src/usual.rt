@@ -1,5 +1,5 @@
 ghost use Rattle.std.specs.Prelude.{◌≡◌, ◌<◌, Some, slice_get};
-ghost use Rattle.dp_script.specs.Acts.{usual_acts, IsWithin};
+ghost use Rattle.dp_script.specs.{IsWithin, usual_acts};
 
 use crate::act::Act;
 

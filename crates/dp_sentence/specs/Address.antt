@@ -1,4 +1,5 @@
--- The address field of IEC 61162-1: a talker of two characters and a formatter of three. Any other address is all talker.
+-- The address field of IEC 61162-1: a talker of two characters and a formatter of three. Any other
+-- address is all talker.
 use Rattle.std.specs.Prelude.{ℕ, List, [], Bool, ◌==◌, ◌&&◌, not, if◌then◌else◌, length, slice_index, take, drop}
 use Rattle.dp_sentence.specs.Fields.{address}
 

@@ -16,12 +16,14 @@ abbrev pub IsDamagedBy : List ℕ → Damage → Type 0
 IsDamagedBy line (TooLong n) = (160 < length line) × (n ≡ length line)
 IsDamagedBy line NoStart = IsShort line × ¬ (Starts line)
 IsDamagedBy line (BadByte place) = IsShort line × Starts line × (position is_bad line ≡ Some place)
-IsDamagedBy line NoSum = IsShort line × Starts line × IsAllPrintable line × ¬ (HasChecksumField line)
+IsDamagedBy line NoSum =
+    IsShort line × Starts line × IsAllPrintable line × ¬ (HasChecksumField line)
 IsDamagedBy line (BadSum digits sum) =
     IsShort line × Starts line × IsAllPrintable line × HasChecksumField line
     × (digits ≡ said line) × (sum ≡ checksum (body line)) × (digits ≢ sum)
 IsDamagedBy line TooManyFields =
-    IsShort line × Starts line × IsAllPrintable line × HasChecksumField line × SaysChecksum line × (24 < length (fields line))
+    IsShort line × Starts line × IsAllPrintable line × HasChecksumField line × SaysChecksum line
+    × (24 < length (fields line))
 
 abbrev pub too_long : List ℕ → Option Damage
 too_long line = if nat_lt 160 (length line) then Some (TooLong (length line)) else None

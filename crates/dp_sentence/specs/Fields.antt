@@ -1,4 +1,5 @@
--- The fields of IEC 61162-1: the body of a line, between `$` and `*`, is parted by commas into the address field and the data fields.
+-- The fields of IEC 61162-1: the body of a line, between `$` and `*`, is parted by commas into the
+-- address field and the data fields.
 use Rattle.std.specs.Prelude.{ℕ, ◌-◌, List, [], ◌==◌, Bool, Option, Some, None, length, drop, slice_index_or, slice_range}
 use Rattle.std.specs.Borrow.{Bor}
 use Rattle.std.specs.List.{slice_split}

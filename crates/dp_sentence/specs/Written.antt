@@ -8,9 +8,11 @@ use Rattle.dp_sentence.specs.Checksum.{checksum}
 abbrev pub body_of : List ℕ → List ℕ → List (List ℕ) → List ℕ
 body_of talker formatter fields = join_with_byte 44 ((talker ++ formatter) ∷ fields)
 
--- `$`, talker and formatter, each data field after its comma, and the last three bytes: together they are the line
+-- `$`, talker and formatter, each data field after its comma, and the last three bytes: together
+-- they are the line
 abbrev pub StandsInOrder : List ℕ → List ℕ → List ℕ → List (List ℕ) → Type 0
-StandsInOrder line talker formatter fields = line ≡ 36 ∷ (body_of talker formatter fields ++ drop (length line - 3) line)
+StandsInOrder line talker formatter fields =
+    line ≡ 36 ∷ (body_of talker formatter fields ++ drop (length line - 3) line)
 
 -- the hexadecimal digit of a number below 16, in upper case
 abbrev pub digit_of : ℕ → ℕ
@@ -27,4 +29,5 @@ written talker formatter fields = closed (body_of talker formatter fields)
 -- the same bytes, but for the case of the last two
 pub record IsSameButForCase (text line : List ℕ) : Type 0 where
   pub prefix : take (length text - 2) text ≡ take (length line - 2) line
-  pub digits : str_to_ascii_uppercase (drop (length text - 2) text) ≡ str_to_ascii_uppercase (drop (length line - 2) line)
+  pub digits : str_to_ascii_uppercase (drop (length text - 2) text)
+      ≡ str_to_ascii_uppercase (drop (length line - 2) line)

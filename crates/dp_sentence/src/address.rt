@@ -1,6 +1,6 @@
 //! The address field.
 ghost use Rattle.std.specs.Prelude.{◌≡◌};
-ghost use Rattle.dp_sentence.specs.Address.{talker_of, formatter_of};
+ghost use Rattle.dp_sentence.specs.{formatter_of, talker_of};
 
 /// The talker and the formatter of an address.
 pub(crate) fn talker_and_formatter(address: &[u8]) -> (&[u8], &[u8])

@@ -1,7 +1,7 @@
 //! The checksum field at the end of a line.
 ghost use Rattle.std.specs.Prelude.{◌≡◌, ◌<◌, ◌≤◌, length, IsTrue};
 ghost use Rattle.std.specs.Char.{is_ascii_hexdigit, digit_value};
-ghost use Rattle.dp_sentence.specs.Checksum.{checksum, has_checksum_field, said};
+ghost use Rattle.dp_sentence.specs.{checksum, has_checksum_field, said};
 
 /// The exclusive-or of all bytes.
 #[tactic(auto, unfolding(crate::specs::Checksum::checksum))]

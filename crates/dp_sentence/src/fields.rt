@@ -2,7 +2,7 @@
 ghost use Rattle.std.specs.Prelude.{◌≡◌, ◌<◌, ◌∷◌, ◌↔◌, length, map, IsNone, IfSome};
 ghost use Rattle.std.specs.List.{position_or_len};
 ghost use Rattle.std.specs.Option.{ForSome};
-ghost use Rattle.dp_sentence.specs.Fields.{is_comma, parts, parts_after};
+ghost use Rattle.dp_sentence.specs.{is_comma, parts, parts_after};
 
 use arrayvec::ArrayVec;
 
@@ -32,7 +32,8 @@ fn cut(text: &[u8]) -> (&[u8], Option<&[u8]>)
 
 /// The address and the data fields of a body; none if it has more than 24 data fields.
 pub(crate) fn split(body: &[u8]) -> Option<(&[u8], ArrayVec<&[u8], 24>)>
-    ensures some { IfSome result (λ s. parts body.now ≡ s.0.now ∷ map (λ field. field.now) s.1.items) }
+    ensures some { IfSome result
+        (λ s. parts body.now ≡ s.0.now ∷ map (λ field. field.now) s.1.items) }
     ensures none { IsNone result ↔ (25 < length (parts body.now)) }
 {
     let (address, mut rest) = cut(body);

@@ -1,5 +1,5 @@
 //! Laws on sentences, each the contract of a function that does nothing.
-ghost use Rattle.dp_sentence.specs.Laws.{WrittenBack, OneByteChanged};
+ghost use Rattle.dp_sentence.specs.{OneByteChanged, WrittenBack};
 
 /// The parts of a sentence, written as `$`, the address, the data fields after their commas, `*` and the two digits of the checksum,
 /// are the same bytes as its line, but for the case of the digits.

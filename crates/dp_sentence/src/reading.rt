@@ -1,11 +1,7 @@
 //! Reading one line as a sentence.
 ghost use Rattle.std.specs.Prelude.{◌≡◌, ◌↔◌, [], drop, map, position, slice_index_or, IsOk, IfOk};
 ghost use Rattle.std.specs.Result.{result_err};
-ghost use Rattle.dp_sentence.specs.Address.{talker, talker_of, formatter, formatter_of};
-ghost use Rattle.dp_sentence.specs.Damage.{damage, damage_but_fields, too_many_fields, is_bad, IsDamagedBy};
-ghost use Rattle.dp_sentence.specs.Fields.{body, fields, parts};
-ghost use Rattle.dp_sentence.specs.Sentence.{IsSentence};
-ghost use Rattle.dp_sentence.specs.Written.{StandsInOrder};
+ghost use Rattle.dp_sentence.specs.{IsDamagedBy, IsSentence, StandsInOrder, body, damage, damage_but_fields, fields, formatter, formatter_of, is_bad, parts, talker, talker_of, too_many_fields};
 
 use crate::address::talker_and_formatter;
 use crate::checksum::{checksum, has_checksum_field, said};
@@ -50,9 +46,12 @@ fn checked_body(line: &[u8]) -> Result<&[u8], Damage>
 
 /// The sentence of a body.
 fn sentence_of(body: &[u8]) -> Result<Sentence<'_>, Damage>
-    ensures talker { IfOk result (λ s. s.talker.now ≡ talker_of (slice_index_or (parts body.now) 0 [])) }
-    ensures formatter { IfOk result (λ s. s.formatter.now ≡ formatter_of (slice_index_or (parts body.now) 0 [])) }
-    ensures fields { IfOk result (λ s. map (λ field. field.now) s.fields.items ≡ drop 1 (parts body.now)) }
+    ensures talker { IfOk result
+        (λ s. s.talker.now ≡ talker_of (slice_index_or (parts body.now) 0 [])) }
+    ensures formatter { IfOk result
+        (λ s. s.formatter.now ≡ formatter_of (slice_index_or (parts body.now) 0 [])) }
+    ensures fields { IfOk result
+        (λ s. map (λ field. field.now) s.fields.items ≡ drop 1 (parts body.now)) }
     ensures damage { result_err result ≡ too_many_fields (drop 1 (parts body.now)) }
 {
     match split(body) {
@@ -86,7 +85,9 @@ pub fn read<'a>(line: &'a [u8]) -> Result<Sentence<'a>, Damage>
     ensures talker { IfOk result (λ s. s.talker.now ≡ talker line.now) }
     ensures formatter { IfOk result (λ s. s.formatter.now ≡ formatter line.now) }
     ensures fields { IfOk result (λ s. map (λ field. field.now) s.fields.items ≡ fields line.now) }
-    ensures in_order { IfOk result (λ s. StandsInOrder line.now s.talker.now s.formatter.now (map (λ field. field.now) s.fields.items)) }
+    ensures in_order { IfOk result
+        (λ s. StandsInOrder line.now s.talker.now s.formatter.now
+        (map (λ field. field.now) s.fields.items)) }
 {
     let body = checked_body(line)?;
     sentence_of(body)

@@ -1,4 +1,3 @@
 pub mod Prefixes
 pub mod Places
 pub mod Taken
-pub mod TakenParts

@@ -19,7 +19,8 @@ pub record HasWriteCause {T : Type 0} (before now : ℕ) (result : Result T Trou
 
 -- each other name that is counted apart keeps its number
 abbrev pub OthersStay : (List ℕ → Bool) → List ℕ → (List ℕ → ℕ) → (List ℕ → ℕ) → Type 0
-OthersStay apart name before now = (other : List ℕ) → IsTrue (apart other) → other ≢ name → now other ≡ before other
+OthersStay apart name before now =
+    (other : List ℕ) → IsTrue (apart other) → other ≢ name → now other ≡ before other
 
 -- no name's number falls
 abbrev pub NoneFalls : (List ℕ → ℕ) → (List ℕ → ℕ) → Type 0

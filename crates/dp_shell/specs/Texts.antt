@@ -6,6 +6,10 @@ use Rattle.std.specs.Str.{bytes_eq}
 abbrev pub Files : Type 0
 Files = List (List ℕ × List ℕ)
 
+-- texts that aren't told
+abbrev pub untold : Option Files
+untold = None
+
 -- the text of a name
 abbrev pub text_named : Files → List ℕ → Option (List ℕ)
 text_named [] name = None
@@ -24,9 +28,12 @@ pub record IsPart (text : List ℕ) (from n : ℕ) (into : List ℕ) : Type 0 wh
 -- where the files are told, a count is answered only for a name that is there, of whose text so many bytes were copied
 abbrev pub ReadsPart : {E : Type 0} → Option Files → List ℕ → ℕ → Result ℕ E → List ℕ → Type 0
 ReadsPart None name from result into = ⊤
-ReadsPart (Some files) name from result into = IfOk result (λ n. IsSomeAnd (text_named files name) (λ text. IsPart text from n into))
+ReadsPart (Some files) name from result into =
+    IfOk result (λ n. IsSomeAnd (text_named files name) (λ text. IsPart text from n into))
 
 -- where the files are told, the name is there, `prefix` is its text up to the limit, and `is_cut` says whether there is more
 abbrev pub ReadsWhole : Option Files → List ℕ → ℕ → List ℕ → Bool → Type 0
 ReadsWhole None name limit prefix is_cut = ⊤
-ReadsWhole (Some files) name limit prefix is_cut = IsSomeAnd (text_named files name) (λ text. (prefix ≡ take limit text) × (is_cut ≡ nat_lt limit (length text)))
+ReadsWhole (Some files) name limit prefix is_cut =
+    IsSomeAnd (text_named files name)
+        (λ text. (prefix ≡ take limit text) × (is_cut ≡ nat_lt limit (length text)))

@@ -21,6 +21,7 @@ mod memory_sink;
 mod plain_shelf;
 mod plain_sink;
 mod reading;
+mod settling;
 mod shelf;
 mod sink;
 mod std_sink;

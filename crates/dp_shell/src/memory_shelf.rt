@@ -56,12 +56,16 @@ impl Shelf for MemoryShelf {
         ensures part { ReadsPart (Some (files_on self.old)) name.now from result into.new }
         ensures files { Some (files_on self.new) ≡ Some (files_on self.old) }
         ensures apart { is_named (files_on self.new) ≡ is_named (files_on self.old) }
-        ensures cause { HasCause (faults_of self.old name.now) (faults_of self.new name.now) result }
-        ensures others { OthersStay (is_named (files_on self.old)) name.now (faults_of self.old) (faults_of self.new) }
+        ensures cause { HasCause (faults_of self.old name.now)
+            (faults_of self.new name.now) result }
+        ensures others { OthersStay (is_named (files_on self.old)) name.now (faults_of self.old)
+            (faults_of self.new) }
         ensures none_falls { NoneFalls (faults_of self.old) (faults_of self.new) }
 
         // It fails exactly at the calls of these numbers and for a name that is missing, and counts no other call.
-        ensures failing { IsErr result ↔ (Contains (failing_calls self.old) (next_call (last_call self.old)) ⊎ IsNone (text_named (files_on self.old) name.now)) }
+        ensures failing { IsErr result ↔
+            (Contains (failing_calls self.old) (next_call (last_call self.old))
+                ⊎ IsNone (text_named (files_on self.old) name.now)) }
         ensures unfailed { IsOk result → faults_of self.new ≡ faults_of self.old }
         ensures calls { last_call self.new ≡ next_call (last_call self.old) }
         ensures same { failing_calls self.new ≡ failing_calls self.old }

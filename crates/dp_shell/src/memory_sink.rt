@@ -53,12 +53,15 @@ impl Sink for MemorySink {
     fn write(&mut self, piece: &[u8]) -> Result<usize, Trouble>
         ensures bound { WritesAtMost result piece.now }
         ensures some { 0 < length piece.now → IfOk result (λ n. 0 < n) }
-        ensures taken { WriteAppends (Some (bytes_in self.old)) (Some (bytes_in self.new)) result piece.now }
+        ensures taken { WriteAppends (Some (bytes_in self.old))
+            (Some (bytes_in self.new)) result piece.now }
         ensures cause { HasWriteCause (faults_of self.old) (faults_of self.new) result }
 
         // It fails exactly at the calls of these numbers, and counts no other.
-        ensures failing { IsErrOf result Trouble.Failed ↔ Contains (failing_calls self.old) (next_call (last_call self.old)) }
-        ensures unfailed { (IsErrOf result Trouble.Failed → ⊥) → faults_of self.new ≡ faults_of self.old }
+        ensures failing { IsErrOf result Trouble.Failed ↔ Contains (failing_calls self.old)
+            (next_call (last_call self.old)) }
+        ensures unfailed { (IsErrOf result Trouble.Failed → ⊥) → faults_of self.new
+            ≡ faults_of self.old }
         ensures calls { last_call self.new ≡ next_call (last_call self.old) }
         ensures same { failing_calls self.new ≡ failing_calls self.old }
     {

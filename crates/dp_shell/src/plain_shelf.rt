@@ -40,8 +40,10 @@ impl Shelf for PlainShelf {
         ensures part { ReadsPart (Some (files_on self.old)) name.now from result into.new }
         ensures files { Some (files_on self.new) ≡ Some (files_on self.old) }
         ensures apart { is_named (files_on self.new) ≡ is_named (files_on self.old) }
-        ensures cause { HasCause (faults_of self.old name.now) (faults_of self.new name.now) result }
-        ensures others { OthersStay (is_named (files_on self.old)) name.now (faults_of self.old) (faults_of self.new) }
+        ensures cause { HasCause (faults_of self.old name.now)
+            (faults_of self.new name.now) result }
+        ensures others { OthersStay (is_named (files_on self.old)) name.now (faults_of self.old)
+            (faults_of self.new) }
         ensures none_falls { NoneFalls (faults_of self.old) (faults_of self.new) }
 
         // It fails exactly for a name that is missing.
@@ -58,5 +60,6 @@ impl Shelf for PlainShelf {
 
     ghost use Rattle.dp_shell.specs.Shared.{missing-shared};
 
-    ghost shared = { λ s a b. missing-shared (is_named (files_on s) a) (is_named (files_on s) b) s.missing };
+    ghost shared = { λ s a b. missing-shared (is_named (files_on s) a)
+        (is_named (files_on s) b) s.missing };
 }

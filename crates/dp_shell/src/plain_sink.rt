@@ -40,7 +40,8 @@ impl Sink for PlainSink {
     fn write(&mut self, piece: &[u8]) -> Result<usize, Trouble>
         ensures bound { WritesAtMost result piece.now }
         ensures some { 0 < length piece.now → IfOk result (λ n. 0 < n) }
-        ensures taken { WriteAppends (Some (bytes_in self.old)) (Some (bytes_in self.new)) result piece.now }
+        ensures taken { WriteAppends (Some (bytes_in self.old))
+            (Some (bytes_in self.new)) result piece.now }
 
         // It never fails.
         ensures never { IsErrOf result Trouble.Failed → ⊥ }

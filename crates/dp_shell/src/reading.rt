@@ -32,17 +32,20 @@ pub fn read_whole<F: Shelf>(
     name: &str,
     limit: usize,
 ) -> Result<FilePart, ReadTrouble>
-    ensures whole { IfOk result (λ whole. ReadsWhole (F.files shelf.old) name.now limit whole.text.items whole.is_cut) }
+    ensures whole { IfOk result (λ whole. ReadsWhole
+        (F.files shelf.old) name.now limit whole.text.items whole.is_cut) }
     ensures size { IfOk result (λ whole. length whole.text.items ≤ limit) }
 
     // Failed comes only where the name's number of faults rose.
     ensures later { F.faults shelf.old name.now ≤ F.faults shelf.new name.now }
-    ensures failed { IsErrOf result ReadTrouble.Failed → Rose (F.faults shelf.old name.now) (F.faults shelf.new name.now) }
+    ensures failed { IsErrOf result ReadTrouble.Failed
+        → Rose (F.faults shelf.old name.now) (F.faults shelf.new name.now) }
 
     // Whatever the answer, texts and names stay, no number falls, and each other name that has its own keeps it.
     ensures files { F.files shelf.new ≡ F.files shelf.old }
     ensures apart { F.apart shelf.new ≡ F.apart shelf.old }
-    ensures others { OthersStay (F.apart shelf.old) name.now (F.faults shelf.old) (F.faults shelf.new) }
+    ensures others { OthersStay (F.apart shelf.old) name.now (F.faults shelf.old)
+        (F.faults shelf.new) }
     ensures none_falls { NoneFalls (F.faults shelf.old) (F.faults shelf.new) }
 {
     let Ok(mut piece) = zeros(alloc, PIECE) else {
@@ -71,12 +74,15 @@ fn fill<F: Shelf>(
 ) -> Result<bool, ReadTrouble>
     requires room { 0 < length piece.old }
     requires empty { text.old.items ≡ [] }
-    ensures whole { IfOk result (λ is_cut. ReadsWhole (F.files shelf.old) name.now limit (take limit text.new.items) is_cut) }
+    ensures whole { IfOk result (λ is_cut. ReadsWhole (F.files shelf.old) name.now limit
+        (take limit text.new.items) is_cut) }
     ensures later { F.faults shelf.old name.now ≤ F.faults shelf.new name.now }
-    ensures failed { IsErrOf result ReadTrouble.Failed → Rose (F.faults shelf.old name.now) (F.faults shelf.new name.now) }
+    ensures failed { IsErrOf result ReadTrouble.Failed
+        → Rose (F.faults shelf.old name.now) (F.faults shelf.new name.now) }
     ensures files { F.files shelf.new ≡ F.files shelf.old }
     ensures apart { F.apart shelf.new ≡ F.apart shelf.old }
-    ensures others { OthersStay (F.apart shelf.old) name.now (F.faults shelf.old) (F.faults shelf.new) }
+    ensures others { OthersStay (F.apart shelf.old) name.now (F.faults shelf.old)
+        (F.faults shelf.new) }
     ensures none_falls { NoneFalls (F.faults shelf.old) (F.faults shelf.new) }
 {
     while text.len() <= limit {

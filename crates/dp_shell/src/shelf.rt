@@ -34,5 +34,6 @@ pub trait Shelf {
         ensures none_falls { NoneFalls (faults self.old) (faults self.new) };
 
     /// All names that have no number of their own share one.
-    ghost shared: { (s : Self) (a b : List ℕ) → IsFalse (apart s a) → IsFalse (apart s b) → faults s a ≡ faults s b };
+    ghost shared: { (s : Self) (a b : List ℕ) → IsFalse (apart s a) → IsFalse (apart s b)
+        → faults s a ≡ faults s b };
 }

@@ -3,6 +3,7 @@ ghost use Rattle.std.specs.Io.{WritesAtMost};
 ghost use Rattle.std.specs.Io.KnownBytes.{WriteAppends};
 ghost use Rattle.dp_shell.specs.Faults.{HasWriteCause};
 
+use crate::settling::{one_more, settle};
 use crate::{Sink, Trouble};
 use std::io;
 use std::io::Write;
@@ -41,12 +42,15 @@ impl<R: Print> Sink for StdSink<'_, R> {
         ensures never { IsErrOf result Trouble.Memory → ⊥ }
         ensures unfailed { IsOk result → faults_of self.new ≡ faults_of self.old }
     {
-        match io::writer(self.rt).write(piece) {
-            Ok(count) if count > 0 || piece.is_empty() => Ok(count),
-            _ => {
-                self.faults = self.faults.saturating_add(1);
+        match settle(io::writer(self.rt).write(piece), !piece.is_empty()) {
+            Some(count) => Ok(count),
+            None => {
+                self.faults = one_more(self.faults);
                 Err(Trouble::Failed)
             }
         }
     }
 }
+
+#[cfg(test)]
+mod tests;

@@ -7,9 +7,11 @@ is_newline b = b == 10
 
 -- a line without the carriage return before its end
 abbrev pub stripped : List ℕ → List ℕ
-stripped line = if slice_index line (length line - 1) == 13 then take (length line - 1) line else line
+stripped line =
+    if slice_index line (length line - 1) == 13 then take (length line - 1) line else line
 
--- the pieces between line feeds are lines, a carriage return before a line feed dropped; the last piece is a line as it stands,
+-- the pieces between line feeds are lines, a carriage return before a line feed dropped; the last
+-- piece is a line as it stands,
 -- unless it is empty or the text goes on
 abbrev pub lines_of_pieces : Bool → List (List ℕ) → List (List ℕ)
 lines_of_pieces goes_on [] = []

@@ -10,9 +10,12 @@ digits_after n (c ∷ cs) = if is_ascii_digit c then digits_after (n * 10 + (c -
 
 -- the number of one to `most` digits
 abbrev pub decimal_of : ℕ → List ℕ → Option ℕ
-decimal_of most text = if nat_lt 0 (length text) && nat_le (length text) most then digits_after 0 text else None
+decimal_of most text =
+    if nat_lt 0 (length text) && nat_le (length text) most then digits_after 0 text else None
 
 -- a number of one to 18 digits, with a minus in front where it is below zero
 abbrev pub number_of : List ℕ → Option ℤ
 number_of [] = None
-number_of (c ∷ cs) = if c == 45 then option_map (λ n. neg_ℤ (pos n)) (decimal_of 18 cs) else option_map pos (decimal_of 18 (c ∷ cs))
+number_of (c ∷ cs) =
+    if c == 45 then option_map (λ n. neg_ℤ (pos n)) (decimal_of 18 cs)
+    else option_map pos (decimal_of 18 (c ∷ cs))

@@ -1,6 +1,6 @@
 ghost use Rattle.std.specs.Prelude.{◌≡◌, ◌<◌, MatchOption, IfSome, [], ◌∷◌, length};
 ghost use Rattle.std.specs.List.{position};
-ghost use Rattle.dp_text.specs.Lines.{is_newline, lines_of, stripped};
+ghost use Rattle.dp_text.specs.{is_newline, lines_of, stripped};
 
 /// A line without the carriage return before its end.
 fn strip(line: &[u8]) -> &[u8]
@@ -24,7 +24,8 @@ fn first_newline(text: &[u8]) -> Option<usize>
 ///
 /// Where the text `goes_on` past its end, what follows its last line feed isn't a line yet.
 pub fn next_line(text: &[u8], goes_on: bool) -> Option<(&[u8], &[u8])>
-    ensures next { MatchOption result (lines_of goes_on text.now ≡ []) (λ p. lines_of goes_on text.now ≡ p.0.now ∷ lines_of goes_on p.1.now) }
+    ensures next { MatchOption result (lines_of goes_on text.now ≡ [])
+        (λ p. lines_of goes_on text.now ≡ p.0.now ∷ lines_of goes_on p.1.now) }
     ensures shorter { IfSome result (λ p. length p.1.now < length text.now) }
 {
     let Some(at) = first_newline(text) else {

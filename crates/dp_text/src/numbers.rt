@@ -1,5 +1,5 @@
 ghost use Rattle.std.specs.Prelude.{◌≡◌, ◌≤◌, ◌<◌, ◌^◌, IfSome, unsigned_abs};
-ghost use Rattle.dp_text.specs.Numbers.{decimal_of, number_of};
+ghost use Rattle.dp_text.specs.{decimal_of, number_of};
 
 /// The most digits of a number.
 const DIGITS: usize = 18;

@@ -13,7 +13,8 @@ Pair = ℤ × ℤ
 abbrev pub unturned : Pair
 unturned = (scale, pos 0)
 
--- one rotation and then another: the cosine and the sine of the sum of two angles, divided by the scale, cut toward zero
+-- one rotation and then another: the cosine and the sine of the sum of two angles, divided by the
+-- scale, cut toward zero
 unfoldable pub turned : Pair → Pair → Pair
 turned (c, s) (c', s') = (int_div (c *ℤ c' -ℤ s *ℤ s') scale, int_div (s *ℤ c' +ℤ c *ℤ s') scale)
 

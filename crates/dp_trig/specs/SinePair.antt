@@ -37,6 +37,7 @@ after_quarters (suc zero) (c, s) = (neg_ℤ s, c)
 after_quarters (suc (suc zero)) (c, s) = (neg_ℤ c, neg_ℤ s)
 after_quarters (suc (suc (suc n))) (c, s) = (s, neg_ℤ c)
 
--- a heading in hundredths of a degree, below 36000: its whole quarters, and the pair within the last one
+-- a heading in hundredths of a degree, below 36000: its whole quarters, and the pair within the
+-- last one
 unfoldable pub pair_of : ℕ → Pair
 pair_of a = after_quarters (a / 9000) (quadrant_pair (a % 9000))

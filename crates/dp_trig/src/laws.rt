@@ -1,6 +1,6 @@
 //! What holds of the defined sine pairs, for proofs that speak of a heading's pair and call nothing.
 
-ghost use Rattle.dp_trig.specs.PairLaws.{EveryPairIsShort, EveryPairHasPartsWithin, NorthIsTheScale, AQuarterMoreTurns, TheOtherHalfExchanges};
+ghost use Rattle.dp_trig.specs.{AQuarterMoreTurns, EveryPairHasPartsWithin, EveryPairIsShort, NorthIsTheScale, TheOtherHalfExchanges};
 
 /// The pair of every heading is at most 1 long, and each of its parts lies from -1 to 1, in units of 2^-30.
 pub fn every_pair_is_short()

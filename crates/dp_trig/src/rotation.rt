@@ -1,7 +1,7 @@
 // Rotations of the plane, each a cosine and a sine.
 
 ghost use Rattle.std.specs.Prelude.{◌≡◌, ◌<◌, ℕ, Some, slice_get};
-ghost use Rattle.dp_trig.specs.Rotation.{IsShort, turned, repeated};
+ghost use Rattle.dp_trig.specs.{IsShort, repeated, turned};
 
 // The unit of a cosine and a sine is 1 / SCALE.
 const SCALE: i64 = 1 << 30;

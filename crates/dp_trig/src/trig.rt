@@ -1,6 +1,5 @@
 ghost use Rattle.std.specs.Prelude.{◌≡◌, ◌<◌, ◌≤◌};
-ghost use Rattle.dp_trig.specs.Rotation.{IsShort, PartsWithin};
-ghost use Rattle.dp_trig.specs.SinePair.{octant_pair, quadrant_pair, pair_of};
+ghost use Rattle.dp_trig.specs.{IsShort, PartsWithin, octant_pair, pair_of, quadrant_pair};
 
 use crate::rotation::{table, turn};
 use std::marker::Model;
@@ -20,7 +19,7 @@ pub struct Trig {
 }
 
 impl Model for Trig {
-    ghost use Rattle.dp_trig.specs.Tables.{AreRotations};
+    ghost use Rattle.dp_trig.specs.{AreRotations};
 
     ghost Value = { Unit {0} };
 

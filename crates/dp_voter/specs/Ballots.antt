@@ -11,7 +11,8 @@ use Rattle.dp_voter.specs.VoterState.{VoterState}
 abbrev pub held_forces : List (Option ℤ) → List ℤ
 held_forces orders = filter_map (λ o. o) orders
 
--- forces agree on one: three on their middle, just two on the force that both are, and fewer on none
+-- forces agree on one: three on their middle, just two on the force that both are, and fewer on
+-- none
 abbrev pub IsAgreed : List ℤ → ℤ → Type 0
 IsAgreed (a ∷ b ∷ c ∷ []) force = force ≡ mid3_of a b c
 IsAgreed (a ∷ b ∷ []) force = (force ≡ a) × (force ≡ b)
@@ -32,7 +33,8 @@ agreed_of (a ∷ b ∷ c ∷ []) = Some (mid3_of a b c)
 agreed_of (a ∷ b ∷ []) = if int_eq a b then Some a else None
 agreed_of _ = None
 
--- fresh where the orders agree on a force; else the last fresh force is held, up to the fifth cycle in a row; else zero
+-- fresh where the orders agree on a force; else the last fresh force is held, up to the fifth cycle
+-- in a row; else zero
 abbrev pub ballot_from : Option ℤ → ℕ → ℤ → Ballot
 ballot_from (Some force) run last_fresh = Fresh force
 ballot_from None run last_fresh = if nat_le run 5 then Held last_fresh else Zero

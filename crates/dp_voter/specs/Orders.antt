@@ -26,8 +26,10 @@ IsPast v force limit = ((force <ℤ v.low) × (limit ≡ v.low)) ⊎ ((v.high <�
 abbrev pub IsReasonFor : VoterState → ℕ → ℕ → ℤ → Took → Type 0
 IsReasonFor v from cycle force (Stale told) = (IsAwaited v cycle → ⊥) × (told ≡ unwrap_or v.cycle 0)
 IsReasonFor v from cycle force (Unfit limit) = IsAwaited v cycle × IsPast v force limit
-IsReasonFor v from cycle force Repeated = IsAwaited v cycle × IsWithin v.low v.high force × IsSome (order_of v.orders from)
-IsReasonFor v from cycle force Taken = IsAwaited v cycle × IsWithin v.low v.high force × IsNone (order_of v.orders from)
+IsReasonFor v from cycle force Repeated =
+    IsAwaited v cycle × IsWithin v.low v.high force × IsSome (order_of v.orders from)
+IsReasonFor v from cycle force Taken =
+    IsAwaited v cycle × IsWithin v.low v.high force × IsNone (order_of v.orders from)
 
 abbrev pub is_cycle : Option ℕ → ℕ → Bool
 is_cycle None cycle = false

@@ -33,4 +33,5 @@ new_voter low high = record {
 
 -- a cycle begins: it has no orders and no ballot yet, so it has no fresh one
 abbrev pub begun : VoterState → ℕ → VoterState
-begun v cycle = record v { cycle = Some cycle; orders = no_orders; ballot = None; run = min 6 (v.run + 1) }
+begun v cycle =
+    record v { cycle = Some cycle; orders = no_orders; ballot = None; run = min 6 (v.run + 1) }

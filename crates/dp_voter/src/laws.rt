@@ -1,5 +1,5 @@
 //! What follows from the rules of orders and ballots: each function's contract is the law.
-ghost use Rattle.dp_voter.specs.Laws.{AnswerHasReason, FreshIsBetween, FreshIsRight, FreshIsWithin, OrdersStayWithin, SecondVoteIsFirst, TwoEqualDecide, TwoRightAreFresh};
+ghost use Rattle.dp_voter.specs.{AnswerHasReason, FreshIsBetween, FreshIsRight, FreshIsWithin, OrdersStayWithin, SecondVoteIsFirst, TwoEqualDecide, TwoRightAreFresh};
 
 /// What a voter answers to an order has its reason, and no other answer has one.
 pub fn answer_has_reason()

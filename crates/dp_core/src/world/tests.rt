@@ -1,64 +1,184 @@
+//! Rows of events, each with what is seen of it.
+//!
+//! A row is `name~EVENT=SEEN ..~modes~orders of voter 0~of voter 1~of voter 2`. Events: `w,NORTH,EAST` a Wire on which the three
+//! references read one place (`w` alone: nothing), `r,C` a Run, `o,FROM,VOTER` an Order, `v,VOTER` a Vote, `k,C,NORTH,EAST` a Skew,
+//! `s,FROM,VOTER,CYCLE,FORCE` a Say, `x,C` a Stop. Seen: `K`, `O`, `D` of each computer (kept, overrun, deaf), `i,CYCLE,FORCES` an
+//! issue, else the answer's name.
 ghost use Rattle.std.specs.Prelude.{◌≡◌, ◌^◌};
-ghost use Rattle.dp_plant.specs.Ranges.{IsVectorWithin};
 ghost use Rattle.dp_plant.specs.FrameRanges.{IsFrameWithin, IsPlaceSlotWithin};
-ghost use Rattle.dp_core.specs.WorldState.{IsAllowed};
+ghost use Rattle.dp_plant.specs.Ranges.{IsVectorWithin};
+ghost use Rattle.dp_core.specs.{IsAllowed};
 
 use super::*;
-use crate::built_in::built_in_plant_is_operable;
-use Answer::{
-    HeardAs, RanAligning, RanHalted, RanIdle, RanOff, RanTo, SentRepeated, SentStale, SentTaken,
-    SentUnfit, SkewedWas, Stopped, Unsent, VotedFresh, VotedHeld, VotedZero,
-};
-use Call::{Brings, Orders, Runs, Says, Skews, Stops, Votes};
+use crate::built_in::built_in_plant_is_sound;
 use dp_plant::{Slot, p0};
 use std::process::Abort;
 
-mod lists;
-mod more_lists;
-mod rows;
-
-/// An event: the readings of a frame, or numbers of computers and voters, and what else it says.
-#[derive(Clone, Copy)]
-pub enum Call {
-    Brings(Option<(i64, i64)>, Option<(i64, i64)>, Option<(i64, i64)>),
-    Runs(u8),
-    Orders(u8, u8),
-    Votes(u8),
-    Skews(u8, i64, i64),
-    Says(u8, u8, u64, i64),
-    Stops(u8),
+#[test]
+fn gives_the_answers_of_the_rows(rt: HostRuntime) -> Result<(), Memory> {
+    built_in_plant_is_sound();
+    let plant = p0();
+    let rows = ROWS;
+    for row in rows {
+        follow(&rt, World::new(rt.alloc(), &plant)?, row);
+    }
+    Ok(())
 }
 
-/// What must be seen of it.
-#[derive(Clone, Copy, Debug, PartialEq, Eq)]
-pub enum Answer {
-    HeardAs(Heard, Heard, Heard),
-    RanTo(u64, i64, i64, i64),
-    RanIdle,
-    RanAligning,
-    RanOff,
-    RanHalted,
-    Unsent,
-    SentTaken,
-    SentRepeated,
-    SentStale(u64),
-    SentUnfit(i64),
-    VotedFresh(i64),
-    VotedHeld(i64),
-    VotedZero,
-    SkewedWas(bool),
-    Stopped,
+fn follow(rt: &impl Abort, mut world: World, row: &str) {
+    let (name, rest) = row.split_once('~').unwrap_or(("", ""));
+    let (steps, rest) = rest.split_once('~').unwrap_or(("", ""));
+    for step in steps.split_whitespace() {
+        let (call, wanted) = step.split_once('=').unwrap_or((step, ""));
+        let event = event(rt, &world, call);
+        let seen = world.apply(&event);
+        assert!(rt; is_seen(&seen, wanted), "{name}: {step}");
+    }
+    assert!(rt; is_shown(rt, &world, rest), "{name}");
 }
 
-/// Events with their answers, and what a world shows after them: the modes, and the orders that each voter took.
-#[derive(Clone, Copy)]
-pub struct Row {
-    pub name: &'static str,
-    pub steps: &'static [(Call, Answer)],
-    pub modes: [Mode; 3],
-    pub surge: [Option<i64>; 3],
-    pub sway: [Option<i64>; 3],
-    pub yaw: [Option<i64>; 3],
+fn event(rt: &impl Abort, world: &World, call: &str) -> Event
+    ensures { IsAllowed world.now result }
+{
+    let [verb, a, b, c, d] = parts(call);
+    if verb == "w" {
+        return Event::Wire(frame(rt, world.cycles_begun, reading(rt, a, b)));
+    }
+    let first = small(a);
+    if verb == "v" {
+        assert!(rt; (first as usize) < world.plant.thrusters.len());
+        return Event::Vote { voter: first };
+    }
+    assert!(rt; first < 3);
+    if verb == "r" {
+        return Event::Run { c: first };
+    }
+    if verb == "x" {
+        return Event::Stop { c: first };
+    }
+    if verb == "k" {
+        return Event::Skew {
+            c: first,
+            at: place(rt, number(b), number(c)),
+        };
+    }
+    let voter = small(b);
+    assert!(rt; (voter as usize) < world.plant.thrusters.len());
+    if verb == "o" {
+        Event::Order { from: first, voter }
+    } else {
+        Event::Say {
+            from: first,
+            voter,
+            cycle: u64::from(small(c)),
+            force: number(d),
+        }
+    }
+}
+
+fn is_seen(seen: &Seen, wanted: &str) -> bool {
+    let [a, b, c, d, e] = parts(wanted);
+    match seen {
+        Seen::Heard(answers) => {
+            let [first, second, third] = *answers;
+            is_heard(first, a) && is_heard(second, b) && is_heard(third, c)
+        }
+        Seen::Ran(Ran::Issued(issue)) => a == "i" && is_issue(issue, [b, c, d, e]),
+        Seen::Ran(Ran::Idle) => a == "idle",
+        Seen::Ran(Ran::Aligning) => a == "aligning",
+        Seen::Ran(Ran::Off) => a == "off",
+        Seen::Ran(Ran::Halted) => a == "halted",
+        Seen::Sent(took) => is_sent(*took, a, b),
+        Seen::Voted(Ballot::Fresh(force)) => a == "F" && *force == number(b),
+        Seen::Voted(Ballot::Held(force)) => a == "H" && *force == number(b),
+        Seen::Voted(Ballot::Zero) => a == "Z",
+        Seen::Skewed(live) => {
+            if *live {
+                a == "live"
+            } else {
+                a == "dead"
+            }
+        }
+        Seen::Done => a == "done",
+    }
+}
+
+fn is_heard(answer: Heard, wanted: &str) -> bool {
+    match answer {
+        Heard::Kept => wanted == "K",
+        Heard::Overrun => wanted == "O",
+        Heard::Deaf => wanted == "D",
+    }
+}
+
+fn is_issue(issue: &Issue, wanted: [&str; 4]) -> bool {
+    let [cycle, surge, sway, yaw] = wanted;
+    let forces = [number(surge), number(sway), number(yaw)];
+    issue.cycle == u64::from(small(cycle)) && issue.forces.as_slice() == forces.as_slice()
+}
+
+fn is_sent(took: Option<Took>, a: &str, b: &str) -> bool {
+    match took {
+        None => a == "unsent",
+        Some(Took::Taken) => a == "taken",
+        Some(Took::Repeated) => a == "repeated",
+        Some(Took::Stale { cycle }) => a == "stale" && cycle == u64::from(small(b)),
+        Some(Took::Unfit { limit }) => a == "unfit" && limit == number(b),
+    }
+}
+
+/// The modes, and the orders that each of three voters took.
+fn is_shown(rt: &impl Abort, world: &World, wanted: &str) -> bool {
+    let (modes, rest) = wanted.split_once('~').unwrap_or(("", ""));
+    let (surge, rest) = rest.split_once('~').unwrap_or(("", ""));
+    let (sway, yaw) = rest.split_once('~').unwrap_or(("", ""));
+    assert!(rt; world.plant.thrusters.len() == 3);
+    let [first, second, third] = world.modes();
+    let [a, b, c, _, _] = parts(modes);
+    is_mode(first, a)
+        && is_mode(second, b)
+        && is_mode(third, c)
+        && is_held(world.held(0), surge)
+        && is_held(world.held(1), sway)
+        && is_held(world.held(2), yaw)
+}
+
+fn is_mode(mode: Mode, wanted: &str) -> bool {
+    match mode {
+        Mode::Live => wanted == "L",
+        Mode::Aligning => wanted == "A",
+        Mode::Off => wanted == "O",
+    }
+}
+
+fn is_held(orders: [Option<i64>; 3], wanted: &str) -> bool {
+    let [first, second, third] = orders;
+    let [a, b, c, _, _] = parts(wanted);
+    is_order(first, a) && is_order(second, b) && is_order(third, c)
+}
+
+fn is_order(order: Option<i64>, wanted: &str) -> bool {
+    match order {
+        None => wanted == "-",
+        Some(force) => wanted != "-" && force == number(wanted),
+    }
+}
+
+/// The parts of a word between its commas, up to five; empty ones at the end.
+fn parts(word: &str) -> [&str; 5] {
+    let (a, rest) = word.split_once(',').unwrap_or((word, ""));
+    let (b, rest) = rest.split_once(',').unwrap_or((rest, ""));
+    let (c, rest) = rest.split_once(',').unwrap_or((rest, ""));
+    let (d, e) = rest.split_once(',').unwrap_or((rest, ""));
+    [a, b, c, d, e]
+}
+
+fn number(word: &str) -> i64 {
+    word.parse::<i64>().unwrap_or(i64::MIN)
+}
+
+fn small(word: &str) -> u8 {
+    word.parse::<u8>().unwrap_or(u8::MAX)
 }
 
 const LIMIT: u64 = 1 << 43;
@@ -70,12 +190,13 @@ fn place(rt: &impl Abort, north: i64, east: i64) -> Place
     Place { north, east }
 }
 
-fn slot(rt: &impl Abort, reading: Option<(i64, i64)>) -> Slot<Place>
+fn reading(rt: &impl Abort, north: &str, east: &str) -> Slot<Place>
     ensures { IsPlaceSlotWithin result }
 {
-    let last = match reading {
-        None => None,
-        Some((north, east)) => Some(place(rt, north, east)),
+    let last = if north.is_empty() {
+        None
+    } else {
+        Some(place(rt, number(north), number(east)))
     };
     Slot {
         last,
@@ -84,15 +205,15 @@ fn slot(rt: &impl Abort, reading: Option<(i64, i64)>) -> Slot<Place>
     }
 }
 
-fn frame(rt: &impl Abort, cycle: u64, readings: [Option<(i64, i64)>; 3]) -> Frame
+fn frame(rt: &impl Abort, cycle: u64, reading: Slot<Place>) -> Frame
+    requires { IsPlaceSlotWithin reading }
     ensures cycle { result.cycle ≡ cycle }
     ensures within { IsFrameWithin result }
 {
     assert!(rt; cycle < 1 << 20);
-    let [first, second, third] = readings;
     Frame {
         cycle,
-        pos: [slot(rt, first), slot(rt, second), slot(rt, third)],
+        pos: [reading; 3],
         gyro: [Slot {
             last: None,
             damage: 0,
@@ -111,134 +232,9 @@ fn frame(rt: &impl Abort, cycle: u64, readings: [Option<(i64, i64)>; 3]) -> Fram
     }
 }
 
-fn event(rt: &impl Abort, world: &World, call: Call) -> Event
-    ensures { IsAllowed world.now result }
-{
-    let voters = world.plant.thrusters.len();
-    match call {
-        Brings(first, second, third) => {
-            Event::Wire(frame(rt, world.heard, [first, second, third]))
-        }
-        Runs(c) => {
-            assert!(rt; c < 3);
-            Event::Run { c }
-        }
-        Orders(from, voter) => {
-            assert!(rt; from < 3 && (voter as usize) < voters);
-            Event::Order { from, voter }
-        }
-        Votes(voter) => {
-            assert!(rt; (voter as usize) < voters);
-            Event::Vote { voter }
-        }
-        Skews(c, north, east) => {
-            assert!(rt; c < 3);
-            Event::Skew {
-                c,
-                at: place(rt, north, east),
-            }
-        }
-        Says(from, voter, cycle, force) => {
-            assert!(rt; from < 3 && (voter as usize) < voters);
-            Event::Say {
-                from,
-                voter,
-                cycle,
-                force,
-            }
-        }
-        Stops(c) => {
-            assert!(rt; c < 3);
-            Event::Stop { c }
-        }
-    }
-}
-
-fn issued(issue: &Issue) -> Answer {
-    let forces = issue.forces.as_slice();
-    RanTo(
-        issue.cycle,
-        forces.get(0).copied().unwrap_or(-1),
-        forces.get(1).copied().unwrap_or(-1),
-        forces.get(2).copied().unwrap_or(-1),
-    )
-}
-
-fn sent(took: Option<Took>) -> Answer {
-    match took {
-        None => Unsent,
-        Some(Took::Taken) => SentTaken,
-        Some(Took::Repeated) => SentRepeated,
-        Some(Took::Stale { cycle }) => SentStale(cycle),
-        Some(Took::Unfit { limit }) => SentUnfit(limit),
-    }
-}
-
-fn ran(answer: &Ran) -> Answer {
-    match answer {
-        Ran::Issued(issue) => issued(issue),
-        Ran::Idle => RanIdle,
-        Ran::Aligning => RanAligning,
-        Ran::Off => RanOff,
-        Ran::Halted => RanHalted,
-    }
-}
-
-fn voted(ballot: Ballot) -> Answer {
-    match ballot {
-        Ballot::Fresh(force) => VotedFresh(force),
-        Ballot::Held(force) => VotedHeld(force),
-        Ballot::Zero => VotedZero,
-    }
-}
-
-fn seen_as(seen: &Seen) -> Answer {
-    match seen {
-        Seen::Heard(answers) => {
-            let [first, second, third] = *answers;
-            HeardAs(first, second, third)
-        }
-        Seen::Ran(answer) => ran(answer),
-        Seen::Sent(took) => sent(*took),
-        Seen::Voted(ballot) => voted(*ballot),
-        Seen::Skewed(live) => SkewedWas(*live),
-        Seen::Done => Stopped,
-    }
-}
-
-fn follow(rt: &impl Abort, mut world: World, row: &Row) {
-    let name = row.name;
-    for (call, expected) in row.steps {
-        let event = event(rt, &world, *call);
-        let seen = world.apply(&event);
-        assert_eq!(rt; seen_as(&seen), *expected, "{name}");
-    }
-    assert_eq!(rt; world.modes(), row.modes, "{name}");
-    assert!(rt; world.plant.thrusters.len() == 3, "{name}");
-    assert_eq!(rt; world.held(0), row.surge, "{name}");
-    assert_eq!(rt; world.held(1), row.sway, "{name}");
-    assert_eq!(rt; world.held(2), row.yaw, "{name}");
-}
-
-fn follow_all(rt: &impl Abort, alloc: Global, rows: &[Row]) -> Result<(), Memory> {
-    built_in_plant_is_operable();
-    let plant = p0();
-    for row in rows {
-        follow(rt, World::new(alloc, &plant)?, row);
-    }
-    Ok(())
-}
-
-#[test]
-fn gives_the_answers_of_the_rows(rt: HostRuntime) -> Result<(), Memory> {
-    let rows = rows::ROWS;
-    follow_all(&rt, rt.alloc(), &rows)
-}
-
-#[test]
-fn gives_the_answers_of_random_lists(rt: HostRuntime) -> Result<(), Memory> {
-    let lists = lists::LISTS;
-    follow_all(&rt, rt.alloc(), &lists)?;
-    let more_lists = more_lists::LISTS;
-    follow_all(&rt, rt.alloc(), &more_lists)
-}
+const ROWS: [&str; 4] = [
+    "a skewed computer runs on from its own state~w,0,0=K,K,K r,0=i,0,0,0,0 r,1=i,0,0,0,0 r,2=i,0,0,0,0 o,0,0=taken o,0,1=taken o,0,2=taken o,1,0=taken o,1,1=taken o,1,2=taken o,2,0=taken o,2,1=taken o,2,2=taken v,0=F,0 v,1=F,0 v,2=F,0 w,0,0=K,K,K k,1,1000000000,0=live r,0=i,1,0,0,0 r,1=i,1,-156250,0,0 r,2=i,1,0,0,0 o,0,0=taken o,0,1=taken o,0,2=taken o,1,0=taken o,1,1=taken o,1,2=taken o,2,0=taken o,2,1=taken o,2,2=taken v,0=F,0 v,1=F,0 v,2=F,0 w,0,0=K,K,K r,0=i,2,0,0,0 r,1=i,2,-83984,0,0 r,2=i,2,0,0,0 o,0,0=taken o,0,1=taken o,0,2=taken o,1,0=taken o,1,1=taken o,1,2=taken o,2,0=taken o,2,1=taken o,2,2=taken v,0=F,0 v,1=F,0 v,2=F,0~L,L,L~0,-83984,0~0,0,0~0,0,0",
+    "a computer says a false force~w,1000000,0=K,K,K r,0=i,0,0,0,0 r,1=i,0,0,0,0 r,2=i,0,0,0,0 o,0,0=taken o,0,1=taken o,0,2=taken o,1,0=taken o,1,1=taken o,1,2=taken o,2,0=taken o,2,1=taken o,2,2=taken v,0=F,0 v,1=F,0 v,2=F,0 w,1000000,0=K,K,K r,0=i,1,-68,0,0 r,1=i,1,-68,0,0 r,2=i,1,-68,0,0 s,1,0,1,999=taken o,0,0=taken o,0,1=taken o,0,2=taken o,1,0=repeated o,1,1=taken o,1,2=taken o,2,0=taken o,2,1=taken o,2,2=taken v,0=F,-68 v,1=F,0 v,2=F,0~L,L,L~-68,999,-68~0,0,0~0,0,0",
+    "sixteen frames wait, and one more is an overrun~w,1000000,0=K,K,K r,0=i,0,0,0,0 r,1=i,0,0,0,0 w,1000000,0=K,K,K r,0=i,1,-68,0,0 r,1=i,1,-68,0,0 w,1000000,0=K,K,K r,0=i,2,-131,0,0 r,1=i,2,-131,0,0 w,1000000,0=K,K,K r,0=i,3,-189,0,0 r,1=i,3,-189,0,0 w,1000000,0=K,K,K r,0=i,4,-241,0,0 r,1=i,4,-241,0,0 w,1000000,0=K,K,K r,0=i,5,-289,0,0 r,1=i,5,-289,0,0 w,1000000,0=K,K,K r,0=i,6,-332,0,0 r,1=i,6,-332,0,0 w,1000000,0=K,K,K r,0=i,7,-371,0,0 r,1=i,7,-371,0,0 w,1000000,0=K,K,K r,0=i,8,-371,0,0 r,1=i,8,-371,0,0 w,1000000,0=K,K,K r,0=i,9,-371,0,0 r,1=i,9,-371,0,0 w,1000000,0=K,K,K r,0=i,10,-371,0,0 r,1=i,10,-371,0,0 w,1000000,0=K,K,K r,0=i,11,-371,0,0 r,1=i,11,-371,0,0 w,1000000,0=K,K,K r,0=i,12,-371,0,0 r,1=i,12,-371,0,0 w,1000000,0=K,K,K r,0=i,13,-371,0,0 r,1=i,13,-371,0,0 w,1000000,0=K,K,K r,0=i,14,-371,0,0 r,1=i,14,-371,0,0 w,1000000,0=K,K,K r,0=i,15,-371,0,0 r,1=i,15,-371,0,0 w,1000000,0=K,K,O r,0=i,16,-371,0,0 r,1=i,16,-371,0,0 r,2=aligning o,2,0=unsent o,0,0=taken o,1,0=taken v,0=F,-371~L,L,A~-371,-371,-~-,-,-~-,-,-",
+    "a stopped computer is deaf, and the last force is held for five cycles~w,1000000,0=K,K,K r,0=i,0,0,0,0 r,0=idle r,1=i,0,0,0,0 r,2=i,0,0,0,0 o,0,0=taken o,1,0=taken o,2,0=taken v,0=F,0 o,0,0=stale,0 x,2=done r,2=off o,2,0=unsent k,2,0,0=dead w,1000000,0=K,K,D r,0=i,1,-68,0,0 o,0,0=taken o,1,0=stale,1 s,1,0,1,50000001=unfit,50000000 s,1,0,1,7=taken s,1,0,1,7=repeated v,0=H,0 v,0=H,0 w=K,K,D v,0=H,0 w=K,K,D v,0=H,0 w=K,K,D v,0=H,0 w=K,K,D v,0=H,0 w=K,K,D v,0=Z~L,L,O~-,-,-~-,-,-~-,-,-",
+];

@@ -1,7 +1,7 @@
 //! Records, with the answers that the format's description gives them.
 use super::*;
 use crate::LineFault::{BadTime, LongLine, NoTime, NoWire, TimeBack, UnknownWire};
-use dp_plant::{Frame, Place, p0};
+use dp_plant::{Frame, Gust, Place, p0};
 use std::alloc::{AllocError, Global};
 use std::process::Abort;
 
@@ -54,6 +54,8 @@ fn frames_of_a_record(rt: HostRuntime) -> Result<(), AllocError> {
         999 pos2 L 1000 -250\n\
         5000 pos2 L 7 8\n\
         5001 wind2 L 7 8\n\
+        5001 wind0 $WIMWV,045.0,R,10.0,N,A*13\n\
+        5001 gyro0 $HEHDT,90.0,T*16\n\
         5001 gyro1";
     let mut first = placed(0, 0, 0, 0);
     first.pos[0].damage = 1;
@@ -65,6 +67,11 @@ fn frames_of_a_record(rt: HostRuntime) -> Result<(), AllocError> {
     first.group[1].last = Some(false);
     let mut last = placed(5, 2, 7_000_000, 8_000_000);
     last.wind[2].skipped = 1;
+    last.wind[0].last = Some(Gust {
+        angle: 4500,
+        speed: 5144,
+    });
+    last.gyro[0].last = Some(9000);
     last.gyro[1].damage = 1;
     assert_eq!(rt;
         answers(&rt, rt.alloc(), record)?.as_slice(),

@@ -2,7 +2,7 @@
 use super::*;
 
 /// What a line says as a sentence on a wire; none where it is no sentence.
-fn sentence_on(kind: WireKind, line: &str) -> Option<Result<Reading, Skip>> {
+pub(crate) fn sentence_on(kind: WireKind, line: &str) -> Option<Result<Reading, Skip>> {
     match dp_sentence::read(line.as_bytes()) {
         Ok(sentence) => Some(sensed(kind, &sentence)),
         Err(_) => None,
@@ -286,11 +286,39 @@ fn whole_sentences(rt: HostRuntime) {
         (
             WireKind::Gyro,
             "$HEHDT,90.0,T*16",
-            Err(Skip::OtherFormatter),
+            Ok(Reading::Heading(9000)),
         ),
         (
             WireKind::Wind,
             "$WIMWV,045.0,R,10.0,N,A*13",
+            Ok(Reading::Wind(Gust {
+                angle: 4500,
+                speed: 5144,
+            })),
+        ),
+        (
+            WireKind::Wind,
+            "$HEHDT,90.0,T*16",
+            Err(Skip::OtherFormatter),
+        ),
+        (
+            WireKind::Position,
+            "$HETHS,90.0,A*14",
+            Err(Skip::OtherFormatter),
+        ),
+        (
+            WireKind::Gyro,
+            "$WIMWV,045.0,R,10.0,N,A*13",
+            Err(Skip::OtherFormatter),
+        ),
+        (
+            WireKind::Gyro,
+            "$HEHDG,90.0,T*05",
+            Err(Skip::OtherFormatter),
+        ),
+        (
+            WireKind::Wind,
+            "$WIVWR,1,R,1,N,,,,*51",
             Err(Skip::OtherFormatter),
         ),
         (

@@ -12,6 +12,7 @@ fn real_files_are_read_back(rt: HostRuntime) {
         ("record", 3, Ok(2), b"dec"),
         ("record", 5, Ok(0), b"dec"),
         ("nowhere", 0, Err(Failed), b"dec"),
+        ("nowhere", 3, Err(Failed), b"dec"),
         ("other", 0, Err(Failed), b"dec"),
     ] {
         assert_eq!(rt;
@@ -21,8 +22,12 @@ fn real_files_are_read_back(rt: HostRuntime) {
         );
         assert_eq!(rt; &into, prefix, "{name} from {from}");
     }
-    // a failure each of the third word and of the names that are no word
-    assert_eq!(rt; shelf.counts, [0, 0, 1, 1, 0, 0, 0, 0, 0]);
+    // two failures of the third word, and one of the names that are no word
+    assert_eq!(rt; shelf.counts, [0, 0, 2, 1, 0, 0, 0, 0, 0]);
+    // a file that goes away while it is read
+    assert!(rt; fs::remove_file(&rt, "record").is_ok());
+    assert_eq!(rt; shelf.read("record", 3, &mut into), Err(Failed));
+    assert_eq!(rt; shelf.counts, [0, 1, 2, 1, 0, 0, 0, 0, 0]);
     let mut out = StdSink::new(&rt);
     assert_eq!(rt; out.write(b"a line\n"), Ok(7));
 }

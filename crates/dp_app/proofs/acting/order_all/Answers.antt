@@ -13,8 +13,8 @@ loop-k-init c = record {
 
 pub loop-k-preserved : goal.loop-k-preserved
 loop-k-preserved c = record {
-  represents = λ es r. subst (λ (l : List Event). Represents l c.apply.new.self) (sym (ordered_next c.args.c c.loop-k.k es)) (c.apply.ensures.represents _ (c.loop-k.invariant.represents es r));
-  plant = c.apply.ensures.plant ∙ c.loop-k.invariant.plant;
+  represents = λ es r. subst (λ (l : List Event). Represents l c.order.new.self) (sym (ordered_next c.args.c c.loop-k.k es)) (c.order.ensures.represents _ (c.loop-k.invariant.represents es r));
+  plant = c.order.ensures.plant ∙ c.loop-k.invariant.plant;
 }
 
 pub returns-clause-represents : goal.returns-clause-represents

@@ -3,7 +3,7 @@ use Rattle.std.proofs.lemmas.List.{take_all}
 use Rattle.dp_core.specs.declared.event.Event.{Event}
 use Rattle.dp_core.specs.Represents.{Represents}
 use Rattle.dp_script.specs.declared.act.Act.{Act}
-use Rattle.dp_script.specs.Events.{acts_at}
+use Rattle.dp_script.specs.TimedActs.{acts_at}
 use Rattle.dp_app.specs.Acting.{all_acted}
 use Rattle.dp_app.proofs.Plays.{acted_next, acted_none}
 use Rattle.dp_app.proofs.acting.perform_all.Goals as goal

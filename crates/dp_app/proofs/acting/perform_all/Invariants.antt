@@ -1,7 +1,7 @@
 use Rattle.std.proofs.Common.{◌≡◌, List, take}
 use Rattle.dp_core.specs.declared.event.Event.{Event}
 use Rattle.dp_core.specs.Represents.{Represents}
-use Rattle.dp_script.specs.Events.{acts_at}
+use Rattle.dp_script.specs.TimedActs.{acts_at}
 use Rattle.dp_app.specs.Acting.{all_acted}
 use Rattle.dp_app.proofs.acting.perform_all.Given as goal
 

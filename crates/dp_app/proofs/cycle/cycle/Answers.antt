@@ -6,7 +6,7 @@ use Rattle.dp_core.specs.History.{history}
 use Rattle.dp_core.specs.Mode.{mode}
 use Rattle.dp_core.specs.Represents.{Represents}
 use Rattle.dp_report.specs.Block.{block_text}
-use Rattle.dp_script.specs.Events.{acts_at}
+use Rattle.dp_script.specs.TimedActs.{acts_at}
 use Rattle.dp_app.specs.Acting.{all_acted, voted, voters}
 use Rattle.dp_app.specs.Blocks.{block_of}
 use Rattle.dp_app.proofs.Blocks.{block_is, cycled_is}
@@ -17,7 +17,7 @@ returns-clause-represents c =
     let p = c.args.plant.now in
     let f = c.args.frame.now in
     λ es r. subst (λ (l : List Event). Represents l c.vote_all-ballots.new.world) (cycled_is p c.args.script.now f es)
-    (c.vote_all-ballots.ensures.represents _ (c.perform_all.ensures.represents _ (c.apply.ensures.represents es r)))
+    (c.vote_all-ballots.ensures.represents _ (c.perform_all.ensures.represents _ (c.wire.ensures.represents es r)))
 
 pub returns-clause-block : goal.returns-clause-block
 returns-clause-block c =
@@ -27,11 +27,11 @@ returns-clause-block c =
     λ es r.
     let heard = Wire f ∷ es in
     let acted = all_acted p f.cycle (acts_at f.cycle s) heard in
-    let done = c.perform_all.ensures.represents heard (c.apply.ensures.represents es r) in
+    let done = c.perform_all.ensures.represents heard (c.wire.ensures.represents es r) in
     let all = voted (voters p) acted in
     let voted_all = c.vote_all-ballots.ensures.represents acted done in
     let modes : c.modes.result ≡ mode 0 (history p all) ∷ mode 1 (history p all) ∷ mode 2 (history p all) ∷ [] =
-    c.modes.ensures.represents all voted_all
+    c.modes.ensures all voted_all
     ∙ ap (λ (q : Plant). mode 0 (history q all) ∷ mode 1 (history q all) ∷ mode 2 (history q all) ∷ []) c.vote_all-ballots.ensures.plant in
     c.write_block.ensures
     ∙ ap block_text (block_is (voters p) f.cycle (history p all) c.modes.result _ _ modes (c.vote_all-ballots.ensures.ballots acted done) (c.held_all.ensures.held all voted_all))

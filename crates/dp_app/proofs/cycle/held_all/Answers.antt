@@ -2,7 +2,7 @@ use Rattle.std.proofs.Common.{◌≡◌, ◌++◌, ◌∷◌, [], ℕ, List, Opt
 use Rattle.std.specs.List.{range_with_len}
 use Rattle.dp_plant.specs.declared.plant.Plant.{Plant}
 use Rattle.dp_core.specs.History.{history}
-use Rattle.dp_core.specs.Voting.{taken}
+use Rattle.dp_core.specs.Voting.{taken_forces}
 use Rattle.dp_app.specs.Acting.{voters}
 use Rattle.dp_app.proofs.Lists.{map_next}
 use Rattle.dp_app.proofs.cycle.held_all.Goals as goal
@@ -12,10 +12,10 @@ loop-k-preserved c =
     let p = c.args.plant.now in
     record {
       held = λ es r.
-          let of : ℕ → List (Option ℤ) = λ k. taken k 0 (history p es) ∷ taken k 1 (history p es) ∷ taken k 2 (history p es) ∷ [] in
+          let of : ℕ → List (Option ℤ) = λ k. taken_forces k (history p es) in
           let asked : c.held.result ≡ of c.loop-k.k =
-          c.held.ensures.represents es r
-          ∙ ap (λ (q : Plant). taken c.loop-k.k 0 (history q es) ∷ taken c.loop-k.k 1 (history q es) ∷ taken c.loop-k.k 2 (history q es) ∷ []) c.requires in
+          c.held.ensures es r
+          ∙ ap (λ (q : Plant). taken_forces c.loop-k.k (history q es)) c.requires in
           c.push.ensures.items ∙ ap (λ (l : List (List (Option ℤ))). l ++ c.held.result ∷ []) (c.loop-k.invariant.held es r)
           ∙ ap (λ (b : List (Option ℤ)). map of (range_with_len 0 c.loop-k.k) ++ b ∷ []) asked
           ∙ sym (map_next of c.loop-k.k);
@@ -27,4 +27,4 @@ returns-clause-held c =
     let p = c.args.plant.now in
     let end : c.loop-k.k ≡ voters p = omega (arith, c.voters_of-k-end.ensures.value) in
     λ es r. c.loop-k.invariant.held es r
-    ∙ ap (λ (n : ℕ). map (λ k. taken k 0 (history p es) ∷ taken k 1 (history p es) ∷ taken k 2 (history p es) ∷ []) (range_with_len 0 n)) end
+    ∙ ap (λ (n : ℕ). map (λ k. taken_forces k (history p es)) (range_with_len 0 n)) end

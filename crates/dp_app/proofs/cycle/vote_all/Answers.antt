@@ -1,5 +1,6 @@
 use Rattle.std.proofs.Common.{◌≡◌, ◌++◌, ◌∷◌, [], ℕ, List, map, sym, ap, subst, ◌∙◌, arith, rules}
 use Rattle.std.specs.List.{range_with_len}
+use Rattle.dp_plant.specs.declared.plant.Plant.{Plant}
 use Rattle.dp_plant.specs.declared.voting.Ballot.{Ballot}
 use Rattle.dp_core.specs.declared.event.Event.{Event}
 use Rattle.dp_core.specs.History.{history}
@@ -24,15 +25,16 @@ loop-k-preserved c =
     let p = c.args.plant.now in
     let i = c.loop-k.invariant in
     record {
-      represents = λ es r. subst (λ (l : List Event). Represents l c.vote.new.world) (sym (voted_next c.loop-k.k es)) (c.vote.ensures.represents _ (i.represents es r));
+      represents = λ es r. subst (λ (l : List Event). Represents l c.vote.new.self) (sym (voted_next c.loop-k.k es)) (c.vote.ensures.represents _ (i.represents es r));
       ballots = λ es r.
           let asked : c.vote.result ≡ ballot c.loop-k.k (history p es) =
-          c.vote.ensures.ballot (voted c.loop-k.k es) (i.represents es r) ∙ ballot_voted p c.loop-k.k c.loop-k.k es in
+          c.vote.ensures.ballot (voted c.loop-k.k es) (i.represents es r)
+          ∙ ap (λ (q : Plant). ballot c.loop-k.k (history q (voted c.loop-k.k es))) i.plant ∙ ballot_voted p c.loop-k.k c.loop-k.k es in
           c.push.ensures.items ∙ ap (λ (l : List Ballot). l ++ c.vote.result ∷ []) (i.ballots es r)
           ∙ ap (λ (b : Ballot). map (λ k. ballot k (history p es)) (range_with_len 0 c.loop-k.k) ++ b ∷ []) asked
           ∙ sym (map_next (λ k. ballot k (history p es)) c.loop-k.k);
       count = search rules;
-      plant = c.vote.ensures.plant;
+      plant = c.vote.ensures.plant ∙ i.plant;
     }
 
 pub returns-clause-represents : goal.returns-clause-represents

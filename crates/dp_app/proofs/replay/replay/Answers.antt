@@ -1,51 +1,58 @@
-use Rattle.std.proofs.Common.{ℕ, List, length, subst, ◌∙◌}
-use Rattle.std.specs.Io.KnownBytes.{Appends}
-use Rattle.dp_shell.specs.Taken.{TakesParts}
-use Rattle.dp_shell.proofs.Taken.{appends_then}
-use Rattle.dp_shell.proofs.TakenParts.{parts_both, parts_prefix, parts_second}
-use Rattle.dp_app.specs.declared.fault.Fault.TheVariants.{Memory}
-use Rattle.dp_app.specs.FaultLines.{fault_line}
-use Rattle.dp_app.specs.Prefixes.{prefix_read}
+use Rattle.std.proofs.Common.{ℕ, List, length, refl, subst, ◌∙◌}
+use Rattle.dp_shell.proofs.Taken.{cut_before}
+use Rattle.dp_shell.specs.Taken.{AppendsCut}
 use Rattle.dp_app.specs.Outcome.{last_line, play_of}
-use Rattle.dp_app.specs.Playing.{text_first}
-use Rattle.dp_app.proofs.Outcomes.{out_prefix, out_is, status_is}
+use Rattle.dp_app.specs.Playing.{text_played}
+use Rattle.dp_app.specs.Prefixes.{prefix_read}
+use Rattle.dp_app.specs.Written.{HasWritten, NoReadFailed}
+use Rattle.dp_app.proofs.Endings.{stopped_announced, stopped_read, stopped_status}
+use Rattle.dp_app.proofs.Outcomes.{out_is, rose_before, status_is}
+use Rattle.dp_app.proofs.Showing.{shown_none}
 use Rattle.dp_app.proofs.replay.replay.Goals as goal
 
-pub returns-in-Ok-clause-plain : goal.returns-in-Ok-clause-plain
-returns-in-Ok-clause-plain g c = λ plain.
-    let p = c.args.plant.now in
-    let s = c.args.script.now in
-    let f = prefix_read c.args.file.now in
-    let last = c.finish.ensures.plain plain in
-    let text = out_is p s f c.play_record.new.player.count c.in-Ok.fault c.in-Ok.ensures.played.count c.in-Ok.ensures.fault in (
-      last.0 ∙ status_is p s f c.in-Ok.fault c.in-Ok.ensures.fault,
-      subst (λ (l : List ℕ). Appends (g.K.Sink.taken c.args.out.now) (g.K.Sink.taken c.finish.new.out) l) text
-          (appends_then (g.K.Sink.taken c.args.out.now) (g.K.Sink.taken c.play_record.new.out) (g.K.Sink.taken c.finish.new.out) _ _ c.in-Ok.ensures.ok last.1),
-    )
+pub returns-in-Ok-clause-status : goal.returns-in-Ok-clause-status
+returns-in-Ok-clause-status g c = λ is.
+    c.finish.ensures.status is ∙ status_is c.args.player.now.plant c.args.player.now.script (prefix_read c.args.file.now) c.in-Ok.fault c.in-Ok.ensures.fault
 
-pub returns-in-Ok-clause-parts : goal.returns-in-Ok-clause-parts
-returns-in-Ok-clause-parts g c =
-    let p = c.args.plant.now in
-    let s = c.args.script.now in
+pub returns-in-Ok-clause-written : goal.returns-in-Ok-clause-written
+returns-in-Ok-clause-written g c =
+    let x = c.args.player.now in
     let f = prefix_read c.args.file.now in
-    let text = out_is p s f c.play_record.new.player.count c.in-Ok.fault c.in-Ok.ensures.played.count c.in-Ok.ensures.fault in
-    subst (λ (l : List ℕ). TakesParts (g.K.Sink.taken c.args.out.now) (g.K.Sink.taken c.finish.new.out) l (fault_line Memory)) text
-    (parts_second (g.K.Sink.taken c.args.out.now) (g.K.Sink.taken c.play_record.new.out) (g.K.Sink.taken c.finish.new.out) _ _ (fault_line Memory) c.in-Ok.ensures.ok c.finish.ensures.prefix)
+    let old = g.K.Sink.taken c.args.out.now in
+    let shown = c.in-Ok.ensures.ok x.plant x.script old (shown_none x.plant x.script x old c.requires.played) in
+    let text = out_is x.plant x.script f c.play_record.new.player.count c.in-Ok.fault shown.frames.count c.in-Ok.ensures.fault in
+    subst (λ (l : List ℕ). HasWritten NoReadFailed l c.finish.result old (g.K.Sink.taken c.finish.new.out)) text
+    (c.finish.ensures.written old (text_played x.plant x.script (play_of x.plant x.script f).frames) shown.text)
 
-pub returns-in-Err-Failed-clause-parts : goal.returns-in-Err-Failed-clause-parts
-returns-in-Err-Failed-clause-parts g c =
-    let p = c.args.plant.now in
-    let s = c.args.script.now in
+pub returns-in-Ok-clause-announced : goal.returns-in-Ok-clause-announced
+returns-in-Ok-clause-announced g c =
+    let x = c.args.player.now in
     let f = prefix_read c.args.file.now in
-    subst (λ (l : List ℕ). TakesParts (g.K.Sink.taken c.args.out.now) (g.K.Sink.taken c.play_record.new.out) l (fault_line Memory)) (out_prefix p s f)
-    (parts_prefix (g.K.Sink.taken c.args.out.now) (g.K.Sink.taken c.play_record.new.out) (text_first p s (play_of p s f).frames)
-    (last_line (length (play_of p s f).frames) (play_of p s f).fault) (fault_line Memory) c.in-Err-Failed.ensures.err)
+    let old = g.K.Sink.taken c.args.out.now in
+    let shown = c.in-Ok.ensures.ok x.plant x.script old (shown_none x.plant x.script x old c.requires.played) in
+    c.finish.ensures.announced old (text_played x.plant x.script (play_of x.plant x.script f).frames) shown.text
 
-pub returns-in-Err-Memory-clause-parts : goal.returns-in-Err-Memory-clause-parts
-returns-in-Err-Memory-clause-parts g c =
-    let p = c.args.plant.now in
-    let s = c.args.script.now in
+pub returns-in-Ok-clause-write : goal.returns-in-Ok-clause-write
+returns-in-Ok-clause-write g c = λ e. rose_before _ _ _ c.in-Ok.ensures.cause.later (c.finish.ensures.write e)
+
+pub returns-in-Err-clause-status : goal.returns-in-Err-clause-status
+returns-in-Err-clause-status g c = stopped_status c.stop.result _ c.stop.ensures.answers
+
+pub returns-in-Err-clause-written : goal.returns-in-Err-clause-written
+returns-in-Err-clause-written g c =
+    let x = c.args.player.now in
     let f = prefix_read c.args.file.now in
-    subst (λ (l : List ℕ). TakesParts (g.K.Sink.taken c.args.out.now) (g.K.Sink.taken c.announce.new.out) l (fault_line Memory)) (out_prefix p s f)
-    (parts_both (g.K.Sink.taken c.args.out.now) (g.K.Sink.taken c.play_record.new.out) (g.K.Sink.taken c.announce.new.out) (text_first p s (play_of p s f).frames)
-    (last_line (length (play_of p s f).frames) (play_of p s f).fault) (fault_line Memory) c.in-Err-Memory.ensures.err c.announce.ensures.prefix)
+    let old = g.K.Sink.taken c.args.out.now in
+    let mid = g.K.Sink.taken c.play_record.new.out in
+    let frames = (play_of x.plant x.script f).frames in
+    let fault = (play_of x.plant x.script f).fault in
+    let cut = c.in-Err.ensures.err x.plant x.script old (shown_none x.plant x.script x old c.requires.played) in
+    c.stop.ensures.written old _
+    (subst (λ (l : List ℕ). AppendsCut old mid l) (out_is x.plant x.script f (length frames) fault refl refl)
+    (cut_before old mid (text_played x.plant x.script frames) (last_line (length frames) fault) cut))
+
+pub returns-in-Err-clause-announced : goal.returns-in-Err-clause-announced
+returns-in-Err-clause-announced g c = stopped_announced c.stop.result _ _ c.stop.ensures.answers
+
+pub returns-in-Err-clause-read : goal.returns-in-Err-clause-read
+returns-in-Err-clause-read g c = stopped_read c.stop.result c.stop.ensures.answers

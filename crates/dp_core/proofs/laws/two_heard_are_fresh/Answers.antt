@@ -1,6 +1,6 @@
-use Rattle.dp_core.proofs.Completeness.{heard-fresh}
+use Rattle.dp_core.proofs.Completeness.{delivered-fresh}
 use Rattle.dp_core.proofs.Limits.{limited}
 use Rattle.dp_core.proofs.laws.two_heard_are_fresh.Goals as goal
 
 pub returns : goal.returns
-returns c = λ p run can es one k a b l m sa sb va vb g. heard-fresh c.two_right_are_fresh.ensures p (limited c.floor_is_exact.ensures p run can) es k a b l m sa sb va vb g
+returns c = λ p sound can es one k a b l m sa sb va vb g. delivered-fresh c.two_right_are_fresh.ensures p (limited c.floor_is_exact.ensures p sound can) es k a b l m sa sb va vb g

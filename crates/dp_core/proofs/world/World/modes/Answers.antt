@@ -3,8 +3,8 @@ use Rattle.dp_core.specs.WorldState.{WorldState}
 use Rattle.dp_core.proofs.Worlds.{mode-shown}
 use Rattle.dp_core.proofs.world.World.modes.Goals as goal
 
-pub returns-clause-represents : goal.returns-clause-represents
-returns-clause-represents c = λ es r.
+pub returns : goal.returns
+returns c = λ es r.
     let w = c.args.self.now in
     let items = c.self.inside.computers in
     let same = ap (λ (w : WorldState). w.computers) c.self.view_is in

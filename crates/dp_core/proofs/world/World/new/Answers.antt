@@ -1,14 +1,16 @@
-use Rattle.std.proofs.Common.{◌∙◌, ap, arith, length, refl, subst, sym}
+use Rattle.std.proofs.Common.{◌∙◌, ap, arith, length, refl, sym}
 use Rattle.dp_plant.specs.declared.plant.Plant.{Plant}
-use Rattle.dp_core.specs.Runnable.{IsRunnable}
 use Rattle.dp_core.proofs.Worlds.{copied-represents, new-in_step, new-length}
+use Rattle.dp_core.proofs.SoundPlants.{sound-ordered}
 use Rattle.dp_core.proofs.world.World.new.Goals as goal
+
+pub voters_of-requires : goal.voters_of-requires
+voters_of-requires c = sound-ordered c.args.plant.now c.requires
 
 pub invariant_of-result : goal.invariant_of-result
 invariant_of-result c =
     let p = c.args.plant.now in
     record {
-      runnable = subst IsRunnable (sym c.copy.ensures) c.requires.runnable;
       three = refl;
       voters = new-length p c.voters_of.result.items c.voters_of.ensures ∙ ap (λ (q : Plant). length q.thrusters.items) (sym c.copy.ensures);
       in_step = new-in_step p c.in_ok-first.first c.in_ok-second.second c.in_ok-third.third c.in_ok-first.ensures c.in_ok-second.ensures c.in_ok-third.ensures;

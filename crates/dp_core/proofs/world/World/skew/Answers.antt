@@ -1,10 +1,11 @@
 use Rattle.std.proofs.Common.{◌∙◌, ap, arith, refl}
-use Rattle.dp_core.specs.Computing.{skewed, skewing}
+use Rattle.dp_core.specs.ComputerState.{after_skew, skew_answer}
 use Rattle.dp_core.specs.WorldState.{WorldState, after}
 use Rattle.dp_core.specs.WorldView.{world_of}
 use Rattle.dp_core.specs.declared.event.Event.TheVariants.{Skew}
-use Rattle.dp_core.proofs.InStep.{one-in_step, skewed-in_step}
+use Rattle.dp_core.proofs.InStep.{one-in_step, skew-in_step}
 use Rattle.dp_core.proofs.Lists.{changed-read, read-at, read-is, set-length}
+use Rattle.dp_core.proofs.Worlds.{skew-answer, went-on}
 use Rattle.dp_core.proofs.world.World.skew.Goals as goal
 
 pub invariant_of-self : goal.invariant_of-self
@@ -16,26 +17,26 @@ invariant_of-self c =
     let x = c.index-self-c.result in
     let at = read-at i.computers c.args.c x (omega arith) c.index-self-c.is in
     record {
-      runnable = was.runnable;
       three = set-length i.computers c.args.c c.skew.new.self ∙ was.three;
       voters = was.voters;
-      in_step = one-in_step i.computers i.heard c.args.c x c.skew.new.self was.in_step at (λ s. rw (c.skew.ensures.new, ← c.index-self-c.is) (skewed-in_step i.heard x c.args.at s));
+      in_step = one-in_step i.computers i.cycles_begun c.args.c x c.skew.new.self was.in_step at (λ s. rw (c.skew.ensures.new, ← c.index-self-c.is) (skew-in_step i.cycles_begun x c.args.at s));
       bounded = was.bounded;
     }
 
-pub returns-clause-new : goal.returns-clause-new
+pub returns-clause-represents : goal.returns-clause-represents
 unfolding after
-returns-clause-new c =
+returns-clause-represents c = λ es r.
     let i = c.self.inside in
     let three = c.self.invariant.three in
     let asked = c.requires.computer in
-    ap (λ ws. record (world_of i) { computers = ws }) (changed-read i.computers i.computers _ c.args.c c.index-self-c.result c.skew.new.self (λ x. skewed x c.args.at) refl (omega arith) c.index-self-c.is c.skew.ensures.new refl)
-    ∙ ap (λ w. after w (Skew c.args.c c.args.at)) c.self.view_is
+    went-on es c.args.self.now _ (Skew c.args.c c.args.at)
+    (ap (λ ws. record (world_of i) { computers = ws }) (changed-read i.computers i.computers _ c.args.c c.index-self-c.result c.skew.new.self (λ x. after_skew x c.args.at) refl (omega arith) c.index-self-c.is c.skew.ensures.new refl)
+    ∙ ap (λ w. after w (Skew c.args.c c.args.at)) c.self.view_is) (c.requires.computer, c.requires.place) r
 
 pub returns-clause-answer : goal.returns-clause-answer
-returns-clause-answer c = λ x s.
+returns-clause-answer c = λ es r.
     let i = c.self.inside in
     let three = c.self.invariant.three in
     let asked = c.requires.computer in
-    c.skew.ensures.answer
-    ∙ ap skewing (read-is i.computers c.args.self.now.computers c.args.c c.index-self-c.result x (ap (λ (w : WorldState). w.computers) c.self.view_is) (omega arith) c.index-self-c.is s)
+    skew-answer es c.args.self.now c.args.c c.skew.result c.requires.computer r
+    (λ x s. c.skew.ensures.answer ∙ ap skew_answer (read-is i.computers c.args.self.now.computers c.args.c c.index-self-c.result x (ap (λ (w : WorldState). w.computers) c.self.view_is) (omega arith) c.index-self-c.is s))

@@ -1,10 +1,15 @@
-use Rattle.std.proofs.Common.{◌∙◌, ◌+◌, ◌≡◌, List, Some, ap, arith, length, subst, sym, ℕ}
+use Rattle.std.proofs.Common.{◌∙◌, ◌+◌, ◌≡◌, List, Some, ap, arith, length, map, subst, sym, ℕ}
 use Rattle.std.specs.Prelude.{slice_get}
-use Rattle.dp_core.specs.Computing.{Computing, heard_frame}
+use Rattle.dp_core.specs.ComputerState.{ComputerState, after_wire}
 use Rattle.dp_core.specs.WorldView.{IsInStep}
 use Rattle.dp_voter.specs.VoterState.{begun}
 use Rattle.dp_core.proofs.InStep.{all-in_step}
 use Rattle.dp_core.proofs.Lists.{map-length}
+use Rattle.dp_core.specs.ComputerState.{wire_answer}
+use Rattle.dp_core.specs.WorldState.{WorldState, after}
+use Rattle.dp_core.specs.WorldView.{world_of}
+use Rattle.dp_core.specs.declared.event.Event.TheVariants.{Wire}
+use Rattle.dp_core.proofs.Worlds.{went-on, wire-answers, wire-is}
 use Rattle.dp_core.proofs.world.World.wire.Goals as goal
 
 pub invariant_of-self : goal.invariant_of-self
@@ -12,12 +17,22 @@ invariant_of-self c =
     let i = c.self.inside in
     let was = c.self.invariant in
     let view = c.self.view_is in
-    let cycle : c.args.f.now.cycle ≡ i.heard = c.requires.next ∙ sym (ap (λ (w : Rattle.dp_core.specs.WorldState.WorldState). w.heard) view) in
+    let cycle : c.args.f.now.cycle ≡ i.cycles_begun = c.requires.next ∙ sym (ap (λ (w : WorldState). w.cycles_begun) view) in
     let less = c.requires.within.cycle in
     record {
-      runnable = was.runnable;
-      three = ap length c.hear_all-heard.ensures.new ∙ (map-length i.computers (λ x. heard_frame x c.args.f.now) ∙ was.three);
+      three = ap length c.wire_all-answers.ensures.new ∙ (map-length i.computers (λ x. after_wire x c.args.f.now) ∙ was.three);
       voters = ap length c.begin_all.ensures ∙ (map-length i.voters.items (λ v. begun v c.args.f.now.cycle) ∙ was.voters);
-      in_step = subst (λ (xs : List Computing). (k : ℕ) (z : Computing) → slice_get xs k ≡ Some z → IsInStep (i.heard + 1) z) (sym c.hear_all-heard.ensures.new) (all-in_step i.computers i.heard c.args.f.now was.in_step);
+      in_step = subst (λ (xs : List ComputerState). (k : ℕ) (z : ComputerState) → slice_get xs k ≡ Some z → IsInStep (i.cycles_begun + 1) z) (sym c.wire_all-answers.ensures.new) (all-in_step i.computers i.cycles_begun c.args.f.now was.in_step);
       bounded = omega arith;
     }
+
+pub returns-clause-represents : goal.returns-clause-represents
+returns-clause-represents c = λ es r.
+    let i = c.self.inside in
+    let cycle : c.args.f.now.cycle ≡ i.cycles_begun = c.requires.next ∙ sym (ap (λ (w : WorldState). w.cycles_begun) c.self.view_is) in
+    let new = wire-is (world_of i) c.args.f.now c.wire_all-answers.new.computers c.begin_all.new.voters.items c.wire_all-answers.ensures.new c.begin_all.ensures cycle in
+    went-on es c.args.self.now _ (Wire c.args.f.now) (new ∙ ap (λ w. after w (Wire c.args.f.now)) c.self.view_is) (c.requires.next, c.requires.within) r
+
+pub returns-clause-answers : goal.returns-clause-answers
+returns-clause-answers c = λ es r.
+    c.wire_all-answers.ensures.answers ∙ (ap (λ (w : WorldState). map wire_answer w.computers) c.self.view_is ∙ wire-answers es c.args.self.now r)

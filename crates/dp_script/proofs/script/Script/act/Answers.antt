@@ -1,8 +1,8 @@
 use Rattle.std.proofs.Common.{◌≡◌, ◌==◌, length, arith, sym, ◌∙◌, ap}
 use Rattle.std.proofs.lemmas.List.Elements.{All-same, All-filter}
-use Rattle.dp_script.specs.declared.event.Event.{Event}
+use Rattle.dp_script.specs.declared.timed_act.TimedAct.{TimedAct}
 use Rattle.dp_script.specs.Acts.{IsWithin, usual_acts}
-use Rattle.dp_script.specs.Events.{acts_at}
+use Rattle.dp_script.specs.TimedActs.{acts_at}
 use Rattle.dp_script.proofs.Spans.{acts_none}
 use Rattle.dp_script.proofs.script.Script.act.Goals as goal
 
@@ -14,6 +14,6 @@ usual-requires c =
 
 pub act_at-requires-clause-within : goal.act_at-requires-clause-within
 act_at-requires-clause-within c =
-    All-same (λ (event : Event). IsWithin event.act) _ _ c.named-named.ensures
-    (All-filter (λ (event : Event). event.cycle == c.args.cycle) (λ (event : Event). IsWithin event.act) c.as_slice.result.now
-    (All-same (λ (event : Event). IsWithin event.act) _ _ c.as_slice.ensures.value c.self.invariant.within))
+    All-same (λ (timed_act : TimedAct). IsWithin timed_act.act) _ _ c.named-named.ensures
+    (All-filter (λ (timed_act : TimedAct). timed_act.cycle == c.args.cycle) (λ (timed_act : TimedAct). IsWithin timed_act.act) c.as_slice.result.now
+    (All-same (λ (timed_act : TimedAct). IsWithin timed_act.act) _ _ c.as_slice.ensures.value c.self.invariant.within))

@@ -2,9 +2,9 @@ use Rattle.std.proofs.Common.{ap, ◌∙◌, false}
 use Rattle.std.proofs.lemmas.Result.{err_from_is_err_and}
 use Rattle.dp_text.specs.Lines.{lines_of}
 use Rattle.dp_script.specs.Faults.{entries_of}
-use Rattle.dp_script.specs.Events.{acts_at}
+use Rattle.dp_script.specs.TimedActs.{acts_at}
 use Rattle.dp_script.proofs.Naming.{same_cycle}
-use Rattle.dp_script.proofs.Reading.{stands_fault, events_end}
+use Rattle.dp_script.proofs.Reading.{stands_fault, timed_acts_end}
 use Rattle.dp_script.proofs.script.Script.of.Goals as goal
 
 pub returns-in_err-hear-clause-fault : goal.returns-in_err-hear-clause-fault
@@ -14,5 +14,5 @@ returns-in_err-hear-clause-fault c =
 
 pub returns-clause-acts : goal.returns-clause-acts
 returns-clause-acts c = λ cycle.
-    ap (acts_at cycle) (c.into_script.ensures ∙ events_end c.loop-line.draft.script _ (lines_of false c.loop-line.rest.now) c.loop-line.invariant.events c.in_default.ensures.next)
+    ap (acts_at cycle) (c.into_script.ensures ∙ timed_acts_end c.loop-line.draft.script _ (lines_of false c.loop-line.rest.now) c.loop-line.invariant.timed_acts c.in_default.ensures.next)
     ∙ same_cycle cycle (entries_of (lines_of false c.args.bytes.now))

@@ -1,7 +1,7 @@
 use Rattle.std.proofs.Common.{◌≡◌, ◌≤◌, ◌+◌, ◌++◌, false, length}
 use Rattle.dp_text.specs.Lines.{lines_of}
 use Rattle.dp_script.specs.Drafts.{IsPassed}
-use Rattle.dp_script.specs.Events.{events_by}
+use Rattle.dp_script.specs.TimedActs.{timed_acts_by}
 use Rattle.dp_script.proofs.Reading.{Stands}
 use Rattle.dp_script.proofs.script.Script.of.Given as goal
 
@@ -9,7 +9,7 @@ abbrev pub invariant-loop-line : goal.invariant-loop-line
 invariant-loop-line l = record {
   room : l.draft.number + length l.rest ≤ length l.bytes;
   passed : IsPassed l.draft;
-  events : l.draft.script ++ events_by (lines_of false l.rest) ≡ events_by (lines_of false l.bytes);
+  timed_acts : l.draft.script ++ timed_acts_by (lines_of false l.rest) ≡ timed_acts_by (lines_of false l.bytes);
   stands : Stands l.draft (lines_of false l.rest) (lines_of false l.bytes);
 }
 

@@ -1,0 +1,15 @@
+pub mod Sums
+pub mod MatrixForms
+pub mod Columns
+pub mod Fills
+pub mod Tables
+pub mod FirstLaws
+pub mod ShownFirst
+pub mod RangeFacts
+pub mod Widths
+pub mod Diagonal
+pub mod TooWide
+pub mod Splits
+pub mod ValidFacts
+pub mod SoundFacts
+pub mod Places

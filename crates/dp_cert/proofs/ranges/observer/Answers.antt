@@ -1,0 +1,9 @@
+use Rattle.dp_cert.specs.Ranges.{observer_rows}
+use Rattle.dp_cert.proofs.ranges.observer.Goals as goal
+
+pub returns : goal.returns
+unfolding observer_rows
+returns c =
+    rw (c.key-5.ensures, c.key-4.ensures, c.key-3.ensures, c.key-2.ensures, c.key.ensures)
+    (rw (c.are_shares.ensures, c.are_shares-2.ensures, c.are_shares-3.ensures, c.are_shares-4.ensures, c.are_shares-5.ensures)
+    (rw (c.from_ref.ensures.value, c.from_ref-2.ensures.value, c.from_ref-3.ensures.value, c.from_ref-4.ensures.value, c.from_ref-5.ensures.value)))

@@ -1,0 +1,11 @@
+pub mod First
+pub mod Matrices
+pub mod Loop
+pub mod WaveLoop
+pub mod Sizes
+pub mod Ranges
+pub mod InRange
+pub mod Width
+pub mod Valid
+pub mod Sound
+pub mod Bound

@@ -1,0 +1,237 @@
+-- A cycle made from its parts is the step.
+use Rattle.std.proofs.Common.{◌≡◌, ◌<◌, ◌≤◌, ◌^◌, ℕ, ◌+◌, ◌-◌, Bool, true, false, ◌&&◌, cond, leb, List, [], ◌∷◌, ◌++◌, Option, Some, None, SomeIff, unwrap_or, refl, sym, ◌∙◌, ap, subst, arith, ℤ, unsigned_abs}
+use Rattle.std.proofs.lemmas.Bool.Decides.{nat_tests}
+use Rattle.dp_fuse.specs.Places.{fused_place, origins_by}
+use Rattle.dp_plant.specs.declared.frames.Frame.{Frame}
+use Rattle.dp_plant.specs.declared.frames.Slot.{Slot}
+use Rattle.dp_plant.specs.declared.limits.Setpoint.{Setpoint}
+use Rattle.dp_plant.specs.declared.place.Place.{Place}
+use Rattle.dp_plant.specs.declared.plane.PlaneState.{PlaneState}
+use Rattle.dp_plant.specs.declared.plant.Plant.{Plant}
+use Rattle.dp_plant.specs.declared.references.RefLimits.{RefLimits}
+use Rattle.dp_plant.specs.declared.references.Verdict.{Verdict}
+use Rattle.dp_plant.specs.declared.yaw.YawState.{YawState}
+use Rattle.dp_plant.specs.Ranges.{IsPlaneWithin}
+use Rattle.dp_plant.specs.Step.{PlaneStep}
+use Rattle.dp_plant.specs.Yaw.{YawStep}
+use Rattle.dp_plant.specs.YawRanges.{IsYawWithin}
+use Rattle.dp_reftest.specs.declared.kept.Kept.{Kept}
+use Rattle.dp_reftest.specs.Tested.{Tested}
+use Rattle.dp_reftest.specs.Verdict.{verdict_of}
+use Rattle.dp_reftest.specs.Window.{last_of, slot_of, window_next}
+use Rattle.dp_trig.specs.SinePair.{pair_of}
+use Rattle.dp_machine.specs.declared.estimates.Estimates.{Estimates}
+use Rattle.dp_machine.specs.declared.references.References.{References}
+use Rattle.dp_machine.specs.declared.sensed.Sensed.{Sensed}
+use Rattle.dp_machine.specs.declared.state.State.{State}
+use Rattle.dp_machine.specs.Parts.{AreReferences, AreTaken, estimates_by, measured_by, plane_cycle, state_by, taken, verdicts_by, yaw_cycle}
+use Rattle.dp_machine.specs.Step.{Step, forces_by, is_near, is_place_near, is_within, limits_at, measured_at, plane_by, plane_in, push_by, sensed_by, sensed_of, step_at, step_by, verdicts_of, whole_demand, window_at, yaw_by, yaw_in}
+
+-- ---- the test of the ranges
+both : (a b : Bool) → a ≡ true → b ≡ true → (a && b) ≡ true
+both true b e f = f
+both false b e f = absurd cc
+
+left : (a b : Bool) → (a && b) ≡ true → a ≡ true
+left true b e = refl
+left false b e = absurd cc
+
+right : (a b : Bool) → (a && b) ≡ true → b ≡ true
+right true b e = e
+right false b e = absurd cc
+
+small : (n m : ℕ) → n ≤ m → leb n m ≡ true
+small n m le = grind (arith, nat_tests)
+
+is_small : (n m : ℕ) → leb n m ≡ true → n ≤ m
+is_small n m e = grind (arith, nat_tests)
+
+near_both : (p : Place) → unsigned_abs p.north ≤ 2 ^ 56 → unsigned_abs p.east ≤ 2 ^ 56 → is_place_near p ≡ true
+near_both p n e = both _ _ (small _ _ n) (small _ _ e)
+
+near_north : (p : Place) → is_place_near p ≡ true → unsigned_abs p.north ≤ 2 ^ 56
+near_north p e = is_small _ _ (left (is_near p.north) (is_near p.east) e)
+
+near_east : (p : Place) → is_place_near p ≡ true → unsigned_abs p.east ≤ 2 ^ 56
+near_east p e = is_small _ _ (right (is_near p.north) (is_near p.east) e)
+
+within_true : (x : PlaneState) (yaw : YawState) → IsPlaneWithin x → IsYawWithin yaw → is_within x yaw ≡ true
+unfolding is_within
+within_true x yaw w y =
+    let eta = near_both x.eta w.north.eta w.east.eta in
+    let beta = near_both x.beta w.north.beta w.east.beta in
+    let vel = near_both x.vel w.north.vel w.east.vel in
+    let wave_p = near_both x.wave_p w.north.wave_p w.east.wave_p in
+    let wave_q = near_both x.wave_q w.north.wave_q w.east.wave_q in
+    both _ _ (both _ _ (both _ _ eta beta) (both _ _ vel wave_p))
+    (both _ _ wave_q (both _ _ (small _ _ y.psi) (both _ _ (small _ _ y.beta) (small _ _ y.rate))))
+
+first_half : PlaneState → Bool
+first_half x = (is_place_near x.eta && is_place_near x.beta) && (is_place_near x.vel && is_place_near x.wave_p)
+
+second_half : PlaneState → YawState → Bool
+second_half x yaw = is_place_near x.wave_q && (is_near yaw.psi && (is_near yaw.beta && is_near yaw.rate))
+
+plane_from : (x : PlaneState) → first_half x ≡ true → is_place_near x.wave_q ≡ true → IsPlaneWithin x
+unfolding first_half
+plane_from x e wave_q =
+    let slow = left (is_place_near x.eta && is_place_near x.beta) (is_place_near x.vel && is_place_near x.wave_p) e in
+    let fast = right (is_place_near x.eta && is_place_near x.beta) (is_place_near x.vel && is_place_near x.wave_p) e in
+    let eta = left (is_place_near x.eta) (is_place_near x.beta) slow in
+    let beta = right (is_place_near x.eta) (is_place_near x.beta) slow in
+    let vel = left (is_place_near x.vel) (is_place_near x.wave_p) fast in
+    let wave_p = right (is_place_near x.vel) (is_place_near x.wave_p) fast in
+    record {
+      north = record { eta = near_north x.eta eta; beta = near_north x.beta beta; vel = near_north x.vel vel; wave_p = near_north x.wave_p wave_p; wave_q = near_north x.wave_q wave_q };
+      east = record { eta = near_east x.eta eta; beta = near_east x.beta beta; vel = near_east x.vel vel; wave_p = near_east x.wave_p wave_p; wave_q = near_east x.wave_q wave_q };
+    }
+
+yaw_from : (yaw : YawState) → (is_near yaw.psi && (is_near yaw.beta && is_near yaw.rate)) ≡ true → IsYawWithin yaw
+yaw_from yaw e =
+    let rest = right (is_near yaw.psi) (is_near yaw.beta && is_near yaw.rate) e in
+    record {
+      psi = is_small _ _ (left (is_near yaw.psi) (is_near yaw.beta && is_near yaw.rate) e);
+      beta = is_small _ _ (left (is_near yaw.beta) (is_near yaw.rate) rest);
+      rate = is_small _ _ (right (is_near yaw.beta) (is_near yaw.rate) rest);
+    }
+
+within_from : (x : PlaneState) (yaw : YawState) → is_within x yaw ≡ true → IsPlaneWithin x × IsYawWithin yaw
+unfolding is_within first_half second_half
+within_from x yaw e =
+    let one = left (first_half x) (second_half x yaw) e in
+    let two = right (first_half x) (second_half x yaw) e in
+    let turned = is_near yaw.psi && (is_near yaw.beta && is_near yaw.rate) in
+    (plane_from x one (left (is_place_near x.wave_q) turned two), yaw_from yaw (right (is_place_near x.wave_q) turned two))
+
+within_false : (x : PlaneState) (yaw : YawState) → (IsPlaneWithin x × IsYawWithin yaw → ⊥) → is_within x yaw ≡ false
+within_false x yaw out = by (is_within x yaw) refl
+  where
+    by : (b : Bool) → is_within x yaw ≡ b → is_within x yaw ≡ false
+    by true e = absurd (out (within_from x yaw e))
+    by false e = e
+
+-- ---- a state's step, by its ranges
+step_ok : (p : Plant) (at : Setpoint) (s : State) (f : Frame) → IsPlaneWithin (plane_in p at s f (sensed_of s f)).next
+    → IsYawWithin (yaw_in p at s (sensed_of s f)).next
+    → step_at p at s f ≡ Some (step_by p s f (sensed_of s f) (whole_demand (plane_in p at s f (sensed_of s f)) (yaw_in p at s (sensed_of s f))) (plane_in p at s f (sensed_of s f)).next (yaw_in p at s (sensed_of s f)).next)
+unfolding step_at
+step_ok p at s f plane yaw =
+    let h = sensed_of s f in
+    let x = plane_in p at s f h in
+    let y = yaw_in p at s h in
+    ap (λ (b : Bool). cond b (Some (step_by p s f h (whole_demand x y) x.next y.next)) None) (within_true x.next y.next plane yaw)
+
+step_err : (p : Plant) (at : Setpoint) (s : State) (f : Frame)
+    → (IsPlaneWithin (plane_in p at s f (sensed_of s f)).next × IsYawWithin (yaw_in p at s (sensed_of s f)).next → ⊥)
+    → step_at p at s f ≡ None
+unfolding step_at
+step_err p at s f out =
+    let h = sensed_of s f in
+    let x = plane_in p at s f h in
+    let y = yaw_in p at s h in
+    ap (λ (b : Bool). cond b (Some (step_by p s f h (whole_demand x y) x.next y.next)) None) (within_false x.next y.next out)
+
+-- ---- the tests of the references after the frame
+verdict_is : (t u : Tested) (limits : RefLimits) (n : ℕ) (slot : Slot Place) → t.limits ≡ limits → u ≡ taken t n slot
+    → verdict_of u.limits u.kept (u.next - 1) ≡ verdict_of limits (window_next limits.window t.kept n slot.last) n
+verdict_is t u limits n slot l e =
+    let number : (n + 1) - 1 ≡ n = omega arith in
+    ap (λ (v : Tested). verdict_of v.limits v.kept (v.next - 1)) e
+    ∙ ap (λ (k : ℕ). verdict_of t.limits (window_next t.limits.window t.kept n slot.last) k) number
+    ∙ ap (λ (m : RefLimits). verdict_of m (window_next m.window t.kept n slot.last) n) l
+
+window_is : (t u : Tested) (limits : RefLimits) (n : ℕ) (slot : Slot Place) → t.limits ≡ limits → u ≡ taken t n slot
+    → u.kept ≡ window_next limits.window t.kept n slot.last
+window_is t u limits n slot l e =
+    ap (λ (v : Tested). v.kept) e ∙ ap (λ (m : RefLimits). window_next m.window t.kept n slot.last) l
+
+three : Verdict → Verdict → Verdict → List Verdict
+three a b c = a ∷ b ∷ c ∷ []
+
+three_same : (a b c d e f : Verdict) → a ≡ d → b ≡ e → c ≡ f → (a ∷ b ∷ c ∷ []) ≡ (d ∷ e ∷ f ∷ [])
+three_same a b c d e f x y z = cc
+
+module _ (p : Plant) (at : Setpoint) (now : Estimates) (refs after : References) (ds : List (List ℤ)) (f : Frame)
+    (are : AreReferences p now.count refs) (heard : AreTaken refs after now.count f.pos) where
+  verdicts_are : verdicts_by after ≡ verdicts_of p (state_by now refs ds) f
+  verdicts_are = three_same _ _ _ _ _ _
+      (verdict_is refs.first after.first (limits_at p 0) now.count (slot_of f.pos 0) are.first_limits heard.first)
+      (verdict_is refs.second after.second (limits_at p 1) now.count (slot_of f.pos 1) are.second_limits heard.second)
+      (verdict_is refs.third after.third (limits_at p 2) now.count (slot_of f.pos 2) are.third_limits heard.third)
+
+  measured_is : (pair : ℤ × ℤ) → measured_by p pair after ≡ measured_at p pair (state_by now refs ds) f
+  unfolding measured_by measured_at
+  measured_is pair = ap (λ (vs : List Verdict). fused_place (origins_by pair p.levers vs)) verdicts_are
+
+  plane_is : (sensed : Sensed) (pair : ℤ × ℤ) → sensed ≡ sensed_by now.heading now.wind f → pair ≡ pair_of (unwrap_or sensed.heading now.heading)
+      → plane_cycle p at now sensed pair after ≡ plane_in p at (state_by now refs ds) f (sensed_by now.heading now.wind f)
+  plane_is sensed pair hs hp =
+      let h = sensed_by now.heading now.wind f in
+      let q = pair_of (unwrap_or h.heading now.heading) in
+      let hq : pair ≡ q = hp ∙ ap (λ (x : Sensed). pair_of (unwrap_or x.heading now.heading)) hs in
+      ap (λ (x : Sensed). plane_cycle p at now x pair after) hs
+      ∙ ap (λ (z : ℤ × ℤ). plane_cycle p at now h z after) hq
+      ∙ ap (λ (y : Option Place). plane_by p at now.lost q (push_by p h.gust) now.plane y) (measured_is q)
+
+  yaw_is : (sensed : Sensed) → sensed ≡ sensed_by now.heading now.wind f → yaw_cycle p at now sensed ≡ yaw_in p at (state_by now refs ds) (sensed_by now.heading now.wind f)
+  yaw_is sensed hs = ap (λ (x : Sensed). yaw_cycle p at now x) hs
+
+  IsNext : Option Estimates → PlaneStep → YawStep → Sensed → Type 0
+  IsNext o plane yaw x = SomeIff o (IsPlaneWithin plane.next × IsYawWithin yaw.next) (estimates_by now x plane.next yaw.next)
+
+  next_is : (o : Option Estimates) (sensed : Sensed) (pair : ℤ × ℤ) → sensed ≡ sensed_by now.heading now.wind f → pair ≡ pair_of (unwrap_or sensed.heading now.heading)
+      → SomeIff o (IsPlaneWithin (plane_cycle p at now sensed pair after).next × IsYawWithin (yaw_cycle p at now sensed).next) (estimates_by now sensed (plane_cycle p at now sensed pair after).next (yaw_cycle p at now sensed).next)
+      → IsNext o (plane_in p at (state_by now refs ds) f (sensed_by now.heading now.wind f)) (yaw_in p at (state_by now refs ds) (sensed_by now.heading now.wind f)) (sensed_by now.heading now.wind f)
+  unfolding IsNext
+  next_is o sensed pair hs hp n =
+      let s = state_by now refs ds in
+      let h = sensed_by now.heading now.wind f in
+      subst (λ (x : Sensed). IsNext o (plane_in p at s f h) (yaw_in p at s h) x) hs
+      (subst (λ (y : YawStep). IsNext o (plane_in p at s f h) y sensed) (yaw_is sensed hs)
+      (subst (λ (x : PlaneStep). IsNext o x (yaw_cycle p at now sensed) sensed) (plane_is sensed pair hs hp) n))
+
+  made : List ℤ → List ℤ → List (List ℤ) → Estimates → Kept → Kept → Kept → Step
+  made demand forces demands e a b c = record {
+    issue = record { cycle = now.count; forces = record { items = forces }; demand = demand };
+    next = record {
+      count = e.count;
+      plane = e.plane;
+      yaw = e.yaw;
+      heading = e.heading;
+      wind = e.wind;
+      lost = e.lost;
+      samples = a ∷ b ∷ c ∷ [];
+      demands = record { items = demands };
+    };
+  }
+
+  made_same : (d d' fs fs' : List ℤ) (ds ds' : List (List ℤ)) (e e' : Estimates) (a b c a' b' c' : Kept)
+      → d ≡ d' → fs ≡ fs' → ds ≡ ds' → e ≡ e' → a ≡ a' → b ≡ b' → c ≡ c' → made d fs ds e a b c ≡ made d' fs' ds' e' a' b' c'
+  made_same d d' fs fs' ds ds' e e' a b c a' b' c' h i j k l m n = cc
+
+  pub step_is : (sensed : Sensed) (pair : ℤ × ℤ) (demand forces : List ℤ) (demands : List (List ℤ)) (next : Estimates)
+      → sensed ≡ sensed_by now.heading now.wind f → pair ≡ pair_of (unwrap_or sensed.heading now.heading)
+      → demand ≡ whole_demand (plane_cycle p at now sensed pair after) (yaw_cycle p at now sensed)
+      → SomeIff (Some next) (IsPlaneWithin (plane_cycle p at now sensed pair after).next × IsYawWithin (yaw_cycle p at now sensed).next) (estimates_by now sensed (plane_cycle p at now sensed pair after).next (yaw_cycle p at now sensed).next)
+      → forces ≡ forces_by p now.lost demand → demands ≡ last_of 60 (ds ++ demand ∷ [])
+      → step_at p at (state_by now refs ds) f ≡ Some (record { issue = record { cycle = now.count; forces = record { items = forces }; demand = demand }; next = state_by next after demands })
+  unfolding made IsNext
+  step_is sensed pair demand forces demands next hs hp hd hn hf hds =
+      let s = state_by now refs ds in
+      let h = sensed_by now.heading now.wind f in
+      let x = plane_in p at s f h in
+      let y = yaw_in p at s h in
+      let n = next_is (Some next) sensed pair hs hp hn in
+      let d : demand ≡ whole_demand x y = hd ∙ ap (λ (z : PlaneStep). whole_demand z (yaw_cycle p at now sensed)) (plane_is sensed pair hs hp) ∙ ap (λ (z : YawStep). whole_demand x z) (yaw_is sensed hs) in
+      let fs : forces_by p now.lost (whole_demand x y) ≡ forces = ap (λ (z : List ℤ). forces_by p now.lost z) (sym d) ∙ sym hf in
+      let dds : last_of 60 (ds ++ whole_demand x y ∷ []) ≡ demands = ap (λ (z : List ℤ). last_of 60 (ds ++ z ∷ [])) (sym d) ∙ sym hds in
+      step_ok p at s f n.0.0 n.0.1 ∙ ap (λ (t : Step). Some t) (made_same _ _ _ _ _ _ _ _ _ _ _ _ _ _ (sym d) fs dds (sym n.1)
+      (sym (window_is refs.first after.first (limits_at p 0) now.count (slot_of f.pos 0) are.first_limits heard.first))
+      (sym (window_is refs.second after.second (limits_at p 1) now.count (slot_of f.pos 1) are.second_limits heard.second))
+      (sym (window_is refs.third after.third (limits_at p 2) now.count (slot_of f.pos 2) are.third_limits heard.third)))
+
+  pub step_is_none : (sensed : Sensed) (pair : ℤ × ℤ) → sensed ≡ sensed_by now.heading now.wind f → pair ≡ pair_of (unwrap_or sensed.heading now.heading)
+      → (IsPlaneWithin (plane_cycle p at now sensed pair after).next × IsYawWithin (yaw_cycle p at now sensed).next → ⊥)
+      → step_at p at (state_by now refs ds) f ≡ None
+  unfolding IsNext
+  step_is_none sensed pair hs hp out = step_err p at (state_by now refs ds) f (next_is None sensed pair hs hp out)

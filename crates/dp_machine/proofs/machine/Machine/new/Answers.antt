@@ -1,0 +1,22 @@
+use Rattle.std.proofs.Common.{ap, subst, sym}
+use Rattle.circular_buffer.specs.Buffer.{Buffer}
+use Rattle.dp_plant.specs.declared.plant.Plant.{Plant}
+use Rattle.dp_plant.specs.SoundPlant.{IsSoundPlant}
+use Rattle.dp_machine.specs.Parts.{AreEstimates, AreReferences}
+use Rattle.dp_machine.proofs.Values.{count_new, demands_new, new_is, references_new}
+use Rattle.dp_machine.proofs.machine.Machine.new.Goals as goal
+
+pub invariant_of-result : goal.invariant_of-result
+invariant_of-result c =
+    let none = count_new c.args.plant.now c.first.result c.first.ensures.value in
+    let refs = references_new c.args.plant.now c.first.result.count c.in_ok-new.field-0 none c.in_ok-new.ensures.first c.in_ok-new.ensures.second c.in_ok-new.ensures.third in
+    record {
+      sound = subst IsSoundPlant (sym c.copy.ensures) c.requires;
+      estimates = subst (λ (p : Plant). AreEstimates p c.first.result) (sym c.copy.ensures) c.first.ensures.within;
+      references = subst (λ (p : Plant). AreReferences p c.first.result.count c.in_ok-new.field-0) (sym c.copy.ensures) refs;
+      demands = demands_new c.first.result.count c.in_ok-ring.field-0 none c.in_ok-ring.ensures;
+    }
+
+pub returns : goal.returns
+returns c = new_is c.args.plant.now c.copy.result c.first.result c.in_ok-new.field-0 c.in_ok-ring.field-0.items c.copy.ensures c.first.ensures.value
+    c.in_ok-new.ensures.first c.in_ok-new.ensures.second c.in_ok-new.ensures.third (ap (λ b. b.items) c.in_ok-ring.ensures)

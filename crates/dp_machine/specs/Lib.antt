@@ -1,0 +1,9 @@
+pub mod Case
+pub mod Step
+pub mod Run
+pub mod Reference
+pub mod Ranges
+pub mod Machine
+pub mod Parts
+pub mod Inside
+pub mod Laws

@@ -1,0 +1,149 @@
+//! The estimates after a cycle.
+ghost use Rattle.std.specs.Prelude.{◌≡◌, ◌≤◌, ◌<◌, ◌^◌, ◌+ℤ◌, IfSome, SomeIff, unwrap_or, unsigned_abs};
+ghost use Rattle.std.specs.Option.{option_map};
+ghost use Rattle.dp_plant.specs.FrameRanges.{IsGustWithin};
+ghost use Rattle.dp_plant.specs.Observer.{plane_next};
+ghost use Rattle.dp_plant.specs.Ranges.{IsMeasuredPlace, IsPair, IsPlaneWithin, IsPush};
+ghost use Rattle.dp_plant.specs.SoundPlant.{IsSoundPlant};
+ghost use Rattle.dp_plant.specs.Step.{push_of};
+ghost use Rattle.dp_plant.specs.Vectors.{entry};
+ghost use Rattle.dp_plant.specs.Yaw.{yaw_next};
+ghost use Rattle.dp_plant.specs.YawRanges.{IsYawPush, IsYawWithin};
+ghost use Rattle.dp_pid.specs.WindPush.{IsWindPush};
+ghost use Rattle.dp_machine.specs.Parts.{AreEstimates, joined_estimates};
+ghost use Rattle.dp_machine.specs.Ranges.{IsWholeDemand, IsYawInRange};
+
+use crate::estimates::Estimates;
+use crate::sensed::Sensed;
+use dp_observer::{plane, yaw};
+use dp_plant::{Gust, Place, PlaneState, Plant, YawState};
+
+/// The plane after the cycle, where it stays in range.
+pub(crate) fn plane_after(
+    plant: &Plant,
+    plane: PlaneState,
+    place: Option<Place>,
+    demand: [i64; 3],
+    wind: [i64; 3],
+    pair: (i64, i64),
+) -> Option<PlaneState>
+    requires plant { IsSoundPlant plant.now }
+    requires plane { IsPlaneWithin plane }
+    requires place { IfSome place IsMeasuredPlace }
+    requires demand { IsWholeDemand demand }
+    requires wind { IsWindPush wind }
+    requires pair { IsPair pair }
+    ensures { let next = plane_next plant.now.gains plane place (push_of demand wind) pair in
+        SomeIff result (IsPlaneWithin next) next }
+{
+    let mut next = plane;
+    match plane::update(&mut next, &plant.gains, place, push_of(demand, wind), pair) {
+        Ok(()) => Some(next),
+        Err(_) => None,
+    }
+}
+
+/// Yaw after the cycle, where it stays in range.
+pub(crate) fn yaw_after(
+    plant: &Plant,
+    yaw: YawState,
+    heading: Option<u32>,
+    demand: [i64; 3],
+    wind: [i64; 3],
+) -> Option<YawState>
+    requires plant { IsSoundPlant plant.now }
+    requires yaw { IsYawInRange yaw }
+    requires heading { IfSome heading (λ a. a < 36000) }
+    requires demand { IsWholeDemand demand }
+    requires wind { IsWindPush wind }
+    ensures value { let next = yaw_next plant.now.yaw yaw heading (entry demand 2 +ℤ entry wind 2) in
+        SomeIff result (IsYawWithin next) next }
+    ensures within { IfSome result IsYawInRange }
+{
+    let mut next = yaw;
+    match yaw::update(&mut next, &plant.yaw, heading, turning_push(demand, wind)) {
+        Ok(()) => Some(next),
+        Err(_) => None,
+    }
+}
+
+/// What pushes in surge and sway: the demand and the wind together.
+fn push_of(demand: [i64; 3], wind: [i64; 3]) -> [i64; 2]
+    requires demand { IsWholeDemand demand }
+    requires wind { IsWindPush wind }
+    ensures value { result ≡ push_of demand wind }
+    ensures within { IsPush result }
+{
+    [pushed(demand[0], wind[0]), pushed(demand[1], wind[1])]
+}
+
+fn pushed(demand: i64, wind: i64) -> i64
+    requires demand { unsigned_abs demand ≤ 2 ^ 31 }
+    requires wind { unsigned_abs wind ≤ 2 ^ 31 }
+    ensures value { result ≡ demand +ℤ wind }
+    ensures bound { unsigned_abs result ≤ 2 ^ 32 }
+{
+    demand + wind
+}
+
+/// What pushes in yaw.
+fn turning_push(demand: [i64; 3], wind: [i64; 3]) -> i64
+    requires demand { IsWholeDemand demand }
+    requires wind { IsWindPush wind }
+    ensures value { result ≡ entry demand 2 +ℤ entry wind 2 }
+    ensures within { IsYawPush result }
+{
+    turned(demand[2], wind[2])
+}
+
+fn turned(demand: i64, wind: i64) -> i64
+    requires demand { unsigned_abs demand ≤ 2 ^ 38 }
+    requires wind { unsigned_abs wind ≤ 2 ^ 31 }
+    ensures value { result ≡ demand +ℤ wind }
+    ensures bound { unsigned_abs result ≤ 2 ^ 39 }
+{
+    demand + wind
+}
+
+/// The estimates after the cycle, where both stay in range.
+pub(crate) fn joined_estimates(
+    plant: &Plant,
+    now: &Estimates,
+    sensed: Sensed,
+    plane: Option<PlaneState>,
+    yaw: Option<YawState>,
+) -> Option<Estimates>
+    requires now { AreEstimates plant.now now.now }
+    requires count { now.now.count < 2 ^ 20 }
+    requires heading { IfSome sensed.heading (λ a. a < 36000) }
+    requires gust { IfSome sensed.gust IsGustWithin }
+    requires plane { IfSome plane IsPlaneWithin }
+    requires yaw { IfSome yaw IsYawInRange }
+    ensures value { result ≡ joined_estimates now.now sensed plane yaw }
+    ensures within { IfSome result (λ x. AreEstimates plant.now x) }
+{
+    let (Some(plane), Some(yaw)) = (plane, yaw) else {
+        return None;
+    };
+    Some(Estimates {
+        count: now.count + 1,
+        plane,
+        yaw,
+        heading: sensed.heading.unwrap_or(now.heading),
+        wind: angle_of(sensed.gust, now.wind),
+        lost: now.lost,
+    })
+}
+
+/// The angle of the wind, or what it was where none is known.
+fn angle_of(gust: Option<Gust>, wind: u32) -> u32
+    requires gust { IfSome gust IsGustWithin }
+    requires wind { wind < 36000 }
+    ensures value { result ≡ unwrap_or (option_map (λ g. g.angle) gust) wind }
+    ensures within { result < 36000 }
+{
+    match gust {
+        Some(gust) => gust.angle,
+        None => wind,
+    }
+}

@@ -1,0 +1,12 @@
+//! The laws, each the contract of a function that does nothing.
+ghost use Rattle.dp_machine.specs.Laws.{IssuesAreOfTheirCycle, IssuesHaveAForceForEachThruster};
+
+/// On a sound plant an issue has as many forces as the plant has thrusters.
+pub fn issues_have_a_force_for_each_thruster()
+    ensures { IssuesHaveAForceForEachThruster }
+{}
+
+/// An issue is of the cycle that the state comes to, and the next state counts one cycle more.
+pub fn issues_are_of_their_cycle()
+    ensures { IssuesAreOfTheirCycle }
+{}

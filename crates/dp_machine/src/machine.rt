@@ -1,0 +1,182 @@
+//! One computer's machine: its plant and its state.
+ghost use Rattle.std.specs.Prelude.{◌≡◌, ◌∷◌, [], ◌^◌, IfOk, OnErr, Some, None};
+ghost use Rattle.dp_plant.specs.FrameRanges.{IsFrameWithin};
+ghost use Rattle.dp_plant.specs.Ranges.{IsVectorWithin};
+ghost use Rattle.dp_plant.specs.SoundPlant.{IsSetpointWithin, IsSoundPlant};
+ghost use Rattle.dp_machine.specs.Machine.{first_machine, one_more, with_rest, with_state};
+ghost use Rattle.dp_machine.specs.Ranges.{IsStateWithin};
+ghost use Rattle.dp_machine.specs.Step.{limits_at, step_at, step_of};
+
+use crate::cycle::Cycle;
+use crate::estimates::Estimates;
+use crate::forces::forces_of;
+use crate::references::References;
+use crate::sensed::Sensed;
+use crate::{Issue, State, demands};
+use circular_buffer::HeapCircularBuffer;
+use dp_observer::Diverged;
+use dp_plant::{Frame, Memory, Place, PlaneState, Plant, Setpoint};
+use dp_trig::Trig;
+use std::alloc::Global;
+use std::marker::Model;
+
+/// One computer's plant and state, seen as the record `MachineValue`: the plant, the state, and how often it was stepped.
+#[derive(Drop)]
+pub struct Machine {
+    plant: Plant,
+    trig: Trig,
+    estimates: Estimates,
+    references: References,
+    demands: HeapCircularBuffer<[i64; 3]>,
+    steps: u64,
+}
+
+impl Model for Machine {
+    ghost use Rattle.dp_machine.specs.Machine.{MachineValue};
+
+    ghost Value = { MachineValue };
+
+    ghost use Rattle.dp_machine.specs.Inside.{IsMachine, value_of};
+
+    ghost view = { value_of };
+
+    ghost invariant = { IsMachine };
+}
+
+impl Machine {
+    /// A machine with the plant's first state: at rest at its start, no samples, no demands, no group lost. No later call takes memory.
+    pub fn new(alloc: Global, plant: &Plant) -> Result<Machine, Memory>
+        requires { IsSoundPlant plant.now }
+        ensures { IfOk result (λ m. m ≡ first_machine plant.now) }
+    {
+        Ok(Machine {
+            plant: plant.copy(),
+            trig: Trig::new(),
+            estimates: Estimates::first(plant),
+            references: References::new(alloc, &plant.refs)?,
+            demands: demands::ring(alloc)?,
+            steps: 0,
+        })
+    }
+
+    /// The number of frames processed.
+    pub fn count(&self) -> u64
+        ensures { result ≡ self.now.state.count }
+    {
+        self.estimates.count
+    }
+
+    /// Takes one cycle at the plant's own setpoint: the frame of the next cycle. What is issued rests on the estimates before it, and on
+    /// this frame's heading, wind and places. After `Diverged` nothing is promised of the state but what `set` asks for.
+    pub fn step(&mut self, f: &Frame) -> Result<Issue, Diverged>
+        requires within { IsFrameWithin f.now }
+        requires next { f.now.cycle ≡ self.old.state.count }
+        ensures issued { IfOk result (λ issue. step_of self.old.plant self.old.state f.now
+            ≡ Some (record { issue = issue; next = self.new.state })) }
+        ensures diverged { OnErr result (step_of self.old.plant self.old.state f.now ≡ None) }
+        ensures plant { self.new.plant ≡ self.old.plant }
+        ensures steps { self.new.steps ≡ one_more self.old.steps }
+    {
+        let at = self.plant.setpoint;
+        self.step_to(f, &at)
+    }
+
+    /// Takes one cycle at a setpoint.
+    pub fn step_to(&mut self, f: &Frame, at: &Setpoint) -> Result<Issue, Diverged>
+        requires within { IsFrameWithin f.now }
+        requires next { f.now.cycle ≡ self.old.state.count }
+        requires setpoint { IsSetpointWithin at.now }
+        ensures issued { IfOk result (λ issue. step_at self.old.plant at.now self.old.state f.now
+            ≡ Some (record { issue = issue; next = self.new.state })) }
+        ensures diverged { OnErr result
+            (step_at self.old.plant at.now self.old.state f.now ≡ None) }
+        ensures plant { self.new.plant ≡ self.old.plant }
+        ensures steps { self.new.steps ≡ one_more self.old.steps }
+    {
+        let sensed = Sensed::of(f, self.estimates.heading, self.estimates.wind);
+        let pair = self
+            .trig
+            .pair(sensed.heading.unwrap_or(self.estimates.heading));
+        self.references.take(self.estimates.count, &f.pos);
+        let cycle = Cycle::of(
+            &self.plant,
+            at,
+            &self.estimates,
+            sensed,
+            pair,
+            &self.references,
+        );
+        let demand = cycle.demand;
+        let issue = Issue {
+            cycle: self.estimates.count,
+            forces: forces_of(&self.plant, self.estimates.lost, demand),
+            demand,
+        };
+        demands::add(&mut self.demands, demand);
+        self.steps = self.steps.saturating_add(1);
+        let Some(next) = cycle.next else {
+            self.estimates.count += 1;
+            return Err(Diverged);
+        };
+        self.estimates = next;
+        Ok(issue)
+    }
+
+    /// Takes the vessel to be at rest at a place within ±2^43 nm, with no bias and no motion by waves. All else stays.
+    pub fn skew(&mut self, at: Place)
+        requires { IsVectorWithin (2 ^ 43) at }
+        ensures { self.new ≡ with_rest self.old at }
+    {
+        self.estimates.plane = PlaneState::rest(at);
+    }
+
+    /// The machine's state; it lies within the ranges of this plant's states.
+    pub fn state(&self) -> State
+        ensures value { result ≡ self.now.state }
+        ensures within { IsStateWithin self.now.plant result }
+    {
+        State {
+            count: self.estimates.count,
+            plane: self.estimates.plane,
+            yaw: self.estimates.yaw,
+            heading: self.estimates.heading,
+            wind: self.estimates.wind,
+            lost: self.estimates.lost,
+            samples: self.references.kept(),
+            demands: demands::list(&self.demands),
+        }
+    }
+
+    /// Gives the machine a state that lies within the ranges of this plant's states.
+    pub fn set(&mut self, s: &State)
+        requires { IsStateWithin self.old.plant s.now }
+        ensures { self.new ≡ with_state self.old s.now }
+    {
+        self.estimates = Estimates::of(s);
+        self.references.set(s.count, &s.samples);
+        demands::fill(&mut self.demands, s.demands.as_slice());
+    }
+
+    /// The lengths of the references' windows.
+    pub fn windows(&self) -> [u8; 3]
+        ensures { let p = self.now.plant in result
+            ≡ (limits_at p 0).window ∷ (limits_at p 1).window ∷ (limits_at p 2).window ∷ [] }
+    {
+        let [first, second, third] = self.plant.refs;
+        [first.window, second.window, third.window]
+    }
+
+    /// The number of the plant's groups of thrusters.
+    pub fn groups(&self) -> u8
+        ensures { result ≡ self.now.plant.groups }
+    {
+        self.plant.groups
+    }
+
+    /// The number of frames that this machine was stepped over since it was made, up to 2^64 - 1, one that diverged included.
+    pub fn steps(&self) -> u64
+        ensures { result ≡ self.now.steps }
+    {
+        self.steps
+    }
+}

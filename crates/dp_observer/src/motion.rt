@@ -1,0 +1,65 @@
+//! How a place or heading, a bias and a velocity move in one cycle, along one coordinate.
+ghost use Rattle.std.specs.Prelude.{◌≡◌, ◌≤◌, ◌^◌, ◌*ℤ◌, ◌+ℤ◌, ◌-ℤ◌, unsigned_abs};
+ghost use Rattle.dp_fixed.specs.Division.{floor_of};
+ghost use Rattle.dp_fixed.specs.Scale.{full_scale};
+ghost use Rattle.dp_plant.specs.Ranges.{IsShare};
+
+use dp_fixed::{Q, difference, floor_div, product, sum};
+
+/// The scale of gains, in 64 bits.
+const ONE: i64 = 1 << 30;
+
+/// A place or heading, moved by its velocity and by its share of how far it is off.
+pub(crate) fn place_next(k2: i64, eta: i64, vel: i64, off: i128) -> i128
+    requires k2 { IsShare k2 }
+    requires eta { unsigned_abs eta ≤ 2 ^ 56 }
+    requires vel { unsigned_abs vel ≤ 2 ^ 56 }
+    requires off { unsigned_abs off ≤ 2 ^ 58 }
+    ensures { result ≡ floor_of ((full_scale *ℤ (eta +ℤ vel)) +ℤ (k2 *ℤ off)) full_scale }
+{
+    let moved = sum(eta as i128, vel as i128);
+    let whole = sum(product(ONE, moved), product(k2, off));
+    floor_div(whole, Q)
+}
+
+/// A bias, which leaks, and takes its share of how far the place is off.
+pub(crate) fn bias_next(leak: i64, k3: i64, beta: i64, off: i128) -> i128
+    requires leak { IsShare leak }
+    requires k3 { IsShare k3 }
+    requires beta { unsigned_abs beta ≤ 2 ^ 56 }
+    requires off { unsigned_abs off ≤ 2 ^ 58 }
+    ensures { let kept = (full_scale *ℤ beta) -ℤ (leak *ℤ beta) in
+        result ≡ floor_of (kept +ℤ (k3 *ℤ off)) full_scale }
+{
+    let kept = difference(product(ONE, beta as i128), product(leak, beta as i128));
+    let whole = sum(kept, product(k3, off));
+    floor_div(whole, Q)
+}
+
+/// A damped velocity and the bias, times the scale.
+fn coasted(damp: i64, beta: i64, vel: i64) -> i128
+    requires damp { IsShare damp }
+    requires beta { unsigned_abs beta ≤ 2 ^ 56 }
+    requires vel { unsigned_abs vel ≤ 2 ^ 56 }
+    ensures value { result ≡ ((full_scale *ℤ vel) -ℤ (damp *ℤ vel)) +ℤ (full_scale *ℤ beta) }
+    ensures bound { unsigned_abs result ≤ 2 ^ 90 }
+{
+    let kept = difference(product(ONE, vel as i128), product(damp, vel as i128));
+    sum(kept, product(ONE, beta as i128))
+}
+
+/// A velocity, which is damped, and driven by the bias, by what pushes, times the scale, and by its share of how far the place is off.
+pub(crate) fn velocity_next(damp: i64, k4: i64, beta: i64, vel: i64, push: i128, off: i128) -> i128
+    requires damp { IsShare damp }
+    requires k4 { IsShare k4 }
+    requires beta { unsigned_abs beta ≤ 2 ^ 56 }
+    requires vel { unsigned_abs vel ≤ 2 ^ 56 }
+    requires push { unsigned_abs push ≤ 2 ^ 92 }
+    requires off { unsigned_abs off ≤ 2 ^ 58 }
+    ensures { let kept = (full_scale *ℤ vel) -ℤ (damp *ℤ vel) in
+        result ≡ floor_of (((kept +ℤ (full_scale *ℤ beta)) +ℤ push) +ℤ (k4 *ℤ off)) full_scale }
+{
+    let pushed = sum(coasted(damp, beta, vel), push);
+    let whole = sum(pushed, product(k4, off));
+    floor_div(whole, Q)
+}

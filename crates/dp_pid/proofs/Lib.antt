@@ -1,0 +1,4 @@
+pub mod AxisAnswers
+pub mod AxisRanges
+pub mod ThreeAnswers
+pub mod WindRows

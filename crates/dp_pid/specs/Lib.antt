@@ -1,0 +1,4 @@
+pub mod Axis
+pub mod Body
+pub mod Asked
+pub mod WindPush

@@ -1,0 +1,6 @@
+pub mod Adding
+pub mod Spreads
+pub mod Reading
+pub mod Rings
+pub mod Windows
+pub mod Testing

@@ -1,0 +1,17 @@
+use Rattle.std.proofs.Common.{◌≡◌, ◌-◌, w64, of_z, to_z, ap, ◌∙◌, arith}
+use Rattle.std.specs.Prelude.{Some}
+use Rattle.std.proofs.lemmas.Int.{to_z-of_z}
+use Rattle.dp_reftest.specs.Running.{pair}
+use Rattle.dp_reftest.specs.Verdict.{is_jump}
+use Rattle.dp_reftest.proofs.sums.Sums.remove.Goals as goal
+
+pub overflow_sub-self-2 : goal.overflow_sub-self-2
+overflow_sub-self-2 c =
+    let j : to_z w64 (of_z w64 c.args.limit) ≡ c.args.limit = to_z-of_z w64 c.args.limit c.ranges.limit in
+    let counted = c.jumps_in.ensures.value ∙ ap (λ z. pair (is_jump z) (Some c.args.p) c.args.after) j in
+    omega (arith, counted, c.requires.jumps)
+
+pub returns-clause-jumps : goal.returns-clause-jumps
+returns-clause-jumps c =
+    let j : to_z w64 (of_z w64 c.args.limit) ≡ c.args.limit = to_z-of_z w64 c.args.limit c.ranges.limit in
+    ap (λ k. c.args.self.now.jumps - k) c.jumps_in.ensures.value ∙ ap (λ z. c.args.self.now.jumps - pair (is_jump z) (Some c.args.p) c.args.after) j

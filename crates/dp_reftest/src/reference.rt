@@ -1,0 +1,213 @@
+//! The tests of one reference: its window in a ring, with its sums beside it.
+ghost use Rattle.std.specs.Prelude.{◌≡◌, ◌<◌, ◌≤◌, ◌+◌, ◌-◌, ◌^◌, [], ◌∷◌, ◌++◌, length, drop, IfOk, IfSome};
+ghost use Rattle.circular_buffer.specs.Buffer.{buffer, keep_last};
+ghost use Rattle.dp_plant.specs.SoundPlant.{AreRefLimits};
+ghost use Rattle.dp_plant.specs.Ranges.{IsVectorWithin};
+ghost use Rattle.dp_reftest.specs.Running.{IsRunning};
+ghost use Rattle.dp_reftest.specs.Totals.{sums_of};
+ghost use Rattle.dp_reftest.specs.Window.{AreNear, IsKept};
+
+use crate::{Kept, Sums};
+use arrayvec::ArrayVec;
+use circular_buffer::HeapCircularBuffer;
+use dp_plant::{Memory, Place, RefLimits, Verdict};
+use std::alloc::Global;
+use std::marker::Model;
+
+/// The tests of one position reference; a contract sees it as the record `Tested`: its limits, the next cycle and the window.
+#[derive(Drop)]
+pub struct RefTest {
+    limits: RefLimits,
+    next: u64,
+    last: u64,
+    ring: HeapCircularBuffer<Place>,
+    sums: Sums,
+}
+
+impl Model for RefTest {
+    ghost use Rattle.dp_reftest.specs.Tested.{Tested};
+
+    ghost Value = { Tested };
+
+    ghost use Rattle.dp_reftest.specs.Inside.{tested, IsTest};
+
+    ghost view = { tested };
+
+    ghost invariant = { IsTest };
+}
+
+impl RefTest {
+    ghost use Rattle.dp_reftest.specs.Tested.{tested_by, untested};
+    ghost use Rattle.dp_reftest.specs.Verdict.{IsVerdictWithin, verdict_of};
+    ghost use Rattle.dp_reftest.specs.Window.{window_next};
+
+    /// A test that has taken no cycle; it makes room for the window, and no later call takes memory.
+    pub fn new(alloc: Global, limits: &RefLimits) -> Result<RefTest, Memory>
+        requires { AreRefLimits limits.now }
+        ensures { IfOk result (λ t. t ≡ untested limits.now) }
+    {
+        let Ok(ring) = HeapCircularBuffer::with_capacity(alloc, limits.window as usize) else {
+            return Err(Memory);
+        };
+        Ok(RefTest {
+            limits: *limits,
+            next: 0,
+            last: 0,
+            ring,
+            sums: NO_SUMS,
+        })
+    }
+
+    /// Takes what a cycle brought: a reading within ±2^43 nm in north and east, or none. Cycles are taken one after another, from 0 or
+    /// from the number that [`RefTest::set`] was given, and are below 2^20.
+    pub fn take(&mut self, cycle: u64, reading: Option<Place>)
+        requires next { cycle ≡ self.old.next }
+        requires within { cycle < 2 ^ 20 }
+        requires near { IfSome reading (IsVectorWithin (2 ^ 43)) }
+        ensures { self.new ≡ tested_by self.old.limits (cycle + 1) (window_next self.old.limits.window self.old.kept cycle reading) }
+    {
+        self.next = cycle + 1;
+        let Some(at) = reading else {
+            return;
+        };
+        push(&mut self.ring, &mut self.sums, at, self.limits.jump);
+        self.last = cycle;
+    }
+
+    /// The verdict as of the last cycle taken; Silent before the first.
+    pub fn usable(&self) -> Verdict
+        ensures value { result ≡ verdict_of self.now.limits self.now.kept (self.now.next - 1) }
+        ensures within { IsVerdictWithin result }
+    {
+        let newest = self.ring.back().copied().unwrap_or(ORIGIN);
+        let now = self.next.saturating_sub(1);
+        self.sums.verdict(&self.limits, newest, self.last, now)
+    }
+
+    /// The window.
+    pub fn kept(&self) -> Kept
+        ensures value { result ≡ self.now.kept }
+        ensures within { IsKept self.now.limits.window self.now.next result }
+    {
+        Kept {
+            last: self.last,
+            list: places_of(&self.ring),
+        }
+    }
+
+    /// Makes it a test that has taken all cycles below `next` and has this window. The window is no longer than the limits', its places are
+    /// within ±2^43 nm; its `last` is 0 where it is empty, else below `next` and at least its length less 1.
+    pub fn set(&mut self, next: u64, kept: &Kept)
+        requires { IsKept self.old.limits.window next kept.now }
+        ensures { self.new ≡ tested_by self.old.limits next kept.now }
+    {
+        self.ring.clear();
+        self.sums = NO_SUMS;
+        fill(
+            &mut self.ring,
+            &mut self.sums,
+            kept.list.as_slice(),
+            self.limits.jump,
+        );
+        self.last = kept.last;
+        self.next = next;
+    }
+
+    /// The sums of the window.
+    pub fn sums(&self) -> &Sums
+        ensures { result.now ≡ sums_of self.now.limits.jump self.now.kept.list.items }
+    {
+        &self.sums
+    }
+}
+
+/// What stands for the newest place where there is none.
+const ORIGIN: Place = Place { north: 0, east: 0 };
+
+/// The sums of no places.
+const NO_SUMS: Sums = Sums {
+    n: 0,
+    x: 0,
+    y: 0,
+    square: 0,
+    jumps: 0,
+    same: 0,
+};
+
+/// The places in the ring, the oldest first.
+fn places_of(ring: &HeapCircularBuffer<Place>) -> ArrayVec<Place, 32>
+    requires { length ring.now.items ≤ 32 }
+    ensures { result.items ≡ ring.now.items }
+{
+    let mut list = ArrayVec::new();
+    let (first, second) = ring.as_slices();
+    // a window fits the list
+    let _fits = list.try_extend_from_slice(first);
+    let _fits = list.try_extend_from_slice(second);
+    list
+}
+
+/// A sample comes in, and the oldest falls out where the ring is full.
+fn push(ring: &mut HeapCircularBuffer<Place>, sums: &mut Sums, at: Place, limit: i64)
+    requires running { IsRunning limit ring.old sums.old }
+    requires some { 0 < ring.old.capacity }
+    requires near { IsVectorWithin (2 ^ 43) at }
+    ensures items { ring.new ≡ buffer (keep_last ring.old.capacity (ring.old.items ++ at ∷ [])) ring.old.capacity }
+    ensures running { IsRunning limit ring.new sums.new }
+{
+    make_room(ring, sums, limit);
+    enter(ring, sums, at, limit);
+}
+
+/// The oldest sample falls out.
+fn leave(ring: &mut HeapCircularBuffer<Place>, sums: &mut Sums, limit: i64)
+    requires running { IsRunning limit ring.old sums.old }
+    requires some { 0 < length ring.old.items }
+    ensures items { ring.new ≡ buffer (drop 1 ring.old.items) ring.old.capacity }
+    ensures running { IsRunning limit ring.new sums.new }
+{
+    if let Some(first) = ring.pop_front() {
+        let after = ring.front().copied();
+        sums.remove(first, after, limit);
+    }
+}
+
+/// A sample comes in.
+fn enter(ring: &mut HeapCircularBuffer<Place>, sums: &mut Sums, at: Place, limit: i64)
+    requires running { IsRunning limit ring.old sums.old }
+    requires room { length ring.old.items < ring.old.capacity }
+    requires near { IsVectorWithin (2 ^ 43) at }
+    ensures items { ring.new ≡ buffer (ring.old.items ++ at ∷ []) ring.old.capacity }
+    ensures running { IsRunning limit ring.new sums.new }
+{
+    let before = ring.back().copied();
+    sums.add(before, at, limit);
+    let _oldest = ring.push_back(at);
+}
+
+/// One sample fits now.
+fn make_room(ring: &mut HeapCircularBuffer<Place>, sums: &mut Sums, limit: i64)
+    requires running { IsRunning limit ring.old sums.old }
+    requires some { 0 < ring.old.capacity }
+    ensures items { ring.new ≡ buffer (keep_last (ring.old.capacity - 1) ring.old.items) ring.old.capacity }
+    ensures running { IsRunning limit ring.new sums.new }
+    ensures room { length ring.new.items < ring.new.capacity }
+{
+    if ring.is_full() {
+        leave(ring, sums, limit);
+    }
+}
+
+/// All these places come in, one after another, into an empty ring.
+fn fill(ring: &mut HeapCircularBuffer<Place>, sums: &mut Sums, places: &[Place], limit: i64)
+    requires running { IsRunning limit ring.old sums.old }
+    requires empty { ring.old.items ≡ [] }
+    requires few { length places.now ≤ ring.old.capacity }
+    requires near { AreNear places.now }
+    ensures items { ring.new ≡ buffer places.now ring.old.capacity }
+    ensures running { IsRunning limit ring.new sums.new }
+{
+    for at in places {
+        enter(ring, sums, *at, limit);
+    }
+}

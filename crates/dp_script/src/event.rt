@@ -1,8 +1,0 @@
-use crate::act::Act;
-
-/// An act and its cycle.
-#[derive(Drop)]
-pub struct Event {
-    pub cycle: u64,
-    pub act: Act,
-}
