@@ -7,12 +7,15 @@ use Rattle.std.proofs.lemmas.Bool.{and_parts, leb-true}
 use Rattle.std.proofs.lemmas.List.Elements.{All-nil, All-cons, All-push, All-map}
 use Rattle.toml.specs.Data.{Data, Items, no_items, item, as_array, as_integer}
 use Rattle.dp_plant.specs.Keys.{◌>>=◌, AreBetween, Fault, Gives, Section, about, all_some, are_within, between as from_to, count, count_at, down_to, each_from, found, indexed, is_within, listed, number_at, numbers_at, of_kind, plain, rows, rows_at, tables, tables_at, up_to, whole_at, wholes, wholes_at}
-use Rattle.dp_plant.specs.PlantFile.{PlantData, all_there, case_at, cases_after, cases_at, cert_at, gains_at, has_case, lost_at, plant_at, plant_view, ref_at, refs_at, setpoint_of, single_masks, spot, thruster_at, thrusters_at, vessel_at, wind_at, yaw_at}
-use Rattle.dp_plant.specs.SoundPlant.{AreRefLimits, AreWindShares, IsCaseWithin, IsLever, IsOriginWithin, IsPlantWithin, IsSetpointWithin, IsThrusterWithin}
+use Rattle.dp_plant.specs.PlantFile.{CertData, PartsData, PlantData, of_three, of_five, all_there, case_at, cases_after, cases_at, cert_at, gains_at, has_case, lists_of_five, lists_of_three, lost_at, parts_at, parts_view, plant_at, plant_view, ref_at, refs_at, setpoint_of, single_masks, spot, thruster_at, thrusters_at, vessel_at, waves_at, wind_at, yaw_at}
+use Rattle.dp_plant.specs.SoundPlant.{AreRefLimits, AreWindShares, IsCaseWithin, IsLever, IsOfVersion, IsOriginWithin, IsPlantWithin, IsSetpointWithin, IsThrusterWithin}
 use Rattle.dp_plant.specs.Vectors.{entry}
+use Rattle.dp_plant.specs.declared.cert.Parts.{Parts}
+use Rattle.dp_plant.specs.declared.cert.Parts.TheVariants.{Three, Five}
 use Rattle.dp_plant.specs.declared.fault.PlantFault.{PlantFault}
 use Rattle.dp_plant.specs.declared.file.references.Reference.{Reference}
 use Rattle.dp_plant.specs.declared.file.vessel.Vessel.{Vessel}
+use Rattle.dp_plant.specs.declared.gains.Gains.{Gains}
 use Rattle.dp_plant.specs.declared.plant.Plant.{Plant}
 use Rattle.dp_plant.specs.declared.thrusters.RawCase.{RawCase}
 use Rattle.dp_plant.specs.declared.thrusters.Thruster.{Thruster}
@@ -195,6 +198,8 @@ setpoint_within zs w = record {
 }
 
 record IsVesselWithin (v : Vessel) : Type 0 where
+  version_low : 1 ≤ v.version
+  version_high : v.version ≤ 2
   cycle_low : 100 ≤ v.cycle_ms
   cycle_high : v.cycle_ms ≤ 10000
   origin : IsOriginWithin v.origin
@@ -215,10 +220,13 @@ vessel_within document v h =
     let (groups, (g, h6)) = chain_ok (count_at s (codes "groups") (from_to 1 8)) _ v h5 in
     let (mass, (m, h7)) = chain_ok (wholes_at s (codes "mass") (replicate 3 (up_to 1099511627776))) _ v h6 in
     let (tol, (t, h8)) = chain_ok (wholes_at s (codes "tol") (replicate 3 (up_to 1099511627776))) _ v h7 in
+    let versions = count_within s (codes "version") 1 2 version a in
     let cycles = count_within s (codes "cycle_ms") 100 10000 cycle c in
     let counts = count_within s (codes "groups") 1 8 groups g in
     let w = wholes_within s (codes "origin") (about 53400000000 ∷ about 108000000000 ∷ []) origin o in
     subst IsVesselWithin (ok_is _ v h8) (record {
+      version_low = versions.0;
+      version_high = versions.1;
       cycle_low = cycles.0;
       cycle_high = cycles.1;
       origin = record { latitude = abs_within 53400000000 _ w.0.0 w.0.1; longitude = abs_within 108000000000 _ w.1.0.0 w.1.0.1 };
@@ -359,9 +367,61 @@ thrusters_within document groups ts few h =
     let most = tables_few document (codes "thruster") 1 12 ds t in
     (each_within IsThrusterWithin (thruster_at groups) (thruster_within groups few) 0 ds ts each, omega (arith, long, most))
 
+-- ---- what goes by the version
+
+abbrev HasNoWaves : Gains → Type 0
+HasNoWaves g = (g.wave ≡ replicate 4 (pos 0)) × (g.k1 ≡ replicate 2 (pos 0))
+
+no_waves_in_one : (document : Option Data) (g : Gains) → gains_at 1 document ≡ Ok g → HasNoWaves g
+unfolding gains_at waves_at
+no_waves_in_one document g h =
+    let s = plain document (codes "gains") in
+    let (k2, (a, h1)) = chain_ok (number_at s (codes "k2")) _ g h in
+    let (k3, (b, h2)) = chain_ok (number_at s (codes "k3")) _ g h1 in
+    let (k4, (c, h3)) = chain_ok (number_at s (codes "k4")) _ g h2 in
+    let (leak, (d, h4)) = chain_ok (number_at s (codes "leak")) _ g h3 in
+    let (damp, (e, h5)) = chain_ok (number_at s (codes "damp")) _ g h4 in
+    let (kp, (f, h6)) = chain_ok (numbers_at s (codes "kp") 2) _ g h5 in
+    let (kd, (i, h7)) = chain_ok (numbers_at s (codes "kd") 2) _ g h6 in
+    let (bias, (j, h8)) = chain_ok (numbers_at s (codes "bias") 2) _ g h7 in
+    subst HasNoWaves (ok_is _ g h8) (refl, refl)
+
+abbrev IsDataOfVersion : ℕ → Gains → PartsData → Type 0
+IsDataOfVersion version g (of_three x) = (version ≡ 1) × HasNoWaves g
+IsDataOfVersion version g (of_five x) = version ≡ 2
+
+parts_of_version : (version : ℕ) (document : Option Data) (g : Gains) (s : Section) (parts : PartsData) → 1 ≤ version → version ≤ 2
+    → gains_at version document ≡ Ok g → parts_at version s ≡ Ok parts → IsDataOfVersion version g parts
+unfolding parts_at
+parts_of_version zero document g s parts low high gains h = absurd (omega arith)
+parts_of_version (suc zero) document g s parts low high gains h =
+    let (x, (read, last)) = chain_ok (lists_of_three s) _ parts h in
+    subst (IsDataOfVersion 1 g) (ok_is (of_three x) parts last) (refl, no_waves_in_one document g gains)
+parts_of_version (suc (suc zero)) document g s parts low high gains h =
+    let (x, (read, last)) = chain_ok (lists_of_five s) _ parts h in
+    subst (IsDataOfVersion 2 g) (ok_is (of_five x) parts last) refl
+parts_of_version (suc (suc (suc n))) document g s parts low high gains h = absurd (omega arith)
+
+cert_of_version : (version : ℕ) (document : Option Data) (g : Gains) (c : CertData) → 1 ≤ version → version ≤ 2
+    → gains_at version document ≡ Ok g → cert_at version document ≡ Ok c → IsDataOfVersion version g c.parts
+unfolding cert_at
+cert_of_version version document gains c low high read h =
+    let s = plain document (codes "cert") in
+    let (rho, (a, h1)) = chain_ok (number_at s (codes "rho")) _ c h in
+    let (b, (d, h2)) = chain_ok (number_at s (codes "b")) _ c h1 in
+    let (r, (e, h3)) = chain_ok (number_at s (codes "r")) _ c h2 in
+    let (g, (f, h4)) = chain_ok (numbers_at s (codes "g") 2) _ c h3 in
+    let (parts, (i, last)) = chain_ok (parts_at version s) _ c h4 in
+    subst (λ (x : CertData). IsDataOfVersion version gains x.parts) (ok_is _ c last) (parts_of_version version document gains s parts low high read i)
+
+seen_version : (version : ℕ) (g : Gains) (parts : Parts) → IsDataOfVersion version g (parts_view parts) → IsOfVersion version g parts
+seen_version version g (Three x) h = (h.0, (h.1.0, h.1.1))
+seen_version version g (Five x) h = h
+
 -- ---- the file
 
 record IsDataWithin (x : PlantData) : Type 0 where
+  version : IsDataOfVersion x.version x.gains x.cert.parts
   vessel : IsVesselWithin (record { version = x.version; cycle_ms = x.cycle_ms; origin = x.origin; start = x.start; setpoint = x.setpoint; groups = x.groups; mass = x.mass; tol = x.tol })
   references : All AreRefLimits x.refs
   levers : All IsLever x.levers
@@ -385,6 +445,7 @@ data_within document x h =
     let r = refs_within document refs b in
     let t = thrusters_within document vessel.groups ts v.groups_high d in
     subst IsDataWithin (ok_is _ x h8) (record {
+      version = cert_of_version vessel.version document gains cert v.version_low v.version_high f k;
       vessel = v;
       references = All-map AreRefLimits (λ (q : Reference). q.limits) refs (λ n z lt. (r n z lt).limits);
       levers = All-map IsLever (λ (q : Reference). q.lever) refs (λ n z lt. (r n z lt).lever);
@@ -398,6 +459,7 @@ pub plant_within : (document : Option Data) (p : Plant) → plant_at document �
 plant_within document p h =
     let w = data_within document (plant_view p) h in
     record {
+      version = seen_version p.version p.gains p.cert.parts w.version;
       cycle_low = w.vessel.cycle_low;
       cycle_high = w.vessel.cycle_high;
       origin = w.vessel.origin;

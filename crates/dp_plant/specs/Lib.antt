@@ -10,7 +10,6 @@ pub mod BuiltInPlant
 pub mod SoundPlant
 pub mod Keys
 pub mod PlantFile
-
 pub use Rattle.dp_plant.specs.Vectors.{along_east, along_north, along_surge, along_sway, entry, offset}
 pub use Rattle.dp_plant.specs.Observer.{component_next, east_of, north_of, plane_next, plane_of, rest_at}
 pub use Rattle.dp_plant.specs.Step.{push_of}

@@ -1,6 +1,9 @@
 -- The ranges of a plant's numbers: what a plant file guarantees, and what a plant that can be run
 -- has besides.
-use Rattle.std.specs.Prelude.{◌≡◌, ◌<◌, ◌≤◌, ◌^◌, length, List, All, ℕ, ℤ, pos, ◌≤ℤ◌, unsigned_abs}
+use Rattle.std.specs.Prelude.{◌≡◌, ◌<◌, ◌≤◌, ◌^◌, length, List, replicate, All, ℕ, ℤ, pos, ◌≤ℤ◌, unsigned_abs}
+use Rattle.dp_plant.specs.declared.cert.Parts.{Parts}
+use Rattle.dp_plant.specs.declared.cert.Parts.TheVariants.{Three, Five}
+use Rattle.dp_plant.specs.declared.gains.Gains.{Gains}
 use Rattle.dp_plant.specs.declared.limits.Setpoint.{Setpoint}
 use Rattle.dp_plant.specs.declared.plant.Plant.{Plant}
 use Rattle.dp_plant.specs.declared.references.RefLimits.{RefLimits}
@@ -55,9 +58,16 @@ pub record IsCaseWithin (thrusters : ℕ) (c : RawCase) : Type 0 where
   pub rows : length c.b.items ≡ thrusters
   pub shares : All (λ row. (axis : ℕ) → unsigned_abs (entry row axis) ≤ 2 ^ 31) c.b.items
 
+-- version 1 has no wave filter, and a certificate over three states; version 2 has one over five
+abbrev pub IsOfVersion : ℕ → Gains → Parts → Type 0
+IsOfVersion version gains (Three lists) =
+    (version ≡ 1) × ((gains.wave ≡ replicate 4 (pos 0)) × (gains.k1 ≡ replicate 2 (pos 0)))
+IsOfVersion version gains (Five lists) = version ≡ 2
+
 -- each number is in the range that a plant file allows, but for those of the gains, which are
 -- judged with the certificate
 pub record IsPlantWithin (p : Plant) : Type 0 where
+  pub version : IsOfVersion p.version p.gains p.cert.parts
   pub cycle_low : 100 ≤ p.cycle_ms
   pub cycle_high : p.cycle_ms ≤ 10000
   pub origin : IsOriginWithin p.origin

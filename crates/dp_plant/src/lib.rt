@@ -4,6 +4,10 @@
 //! gives its thruster. A [`Plant`] is a vessel with the limits, thrusters, cases and gains by which it is controlled; [`Plant::copy`]
 //! answers an equal one and takes no memory. [`p0`] is the built-in plant; `specs/BuiltInPlant` states each of its fields.
 //!
+//! [`plant_of`] reads a plant file, a TOML document. `specs/PlantFile` is the table of its keys, in their order, with the range of each
+//! and what becomes of it; `specs/Keys` has how one key is judged: first whether it is there, then its kind, then its range. The answer
+//! is exactly the plant that this table makes of the document, or exactly the first fault.
+//!
 //! `specs/` has one cycle of the plane as whole numbers: the observer's step (`Observer`), the control law's demand (`Law`), and both
 //! together (`Step`), after the nonlinear passive observer and the PID law of Fossen's Handbook of Marine Craft Hydrodynamics and Motion
 //! Control, made discrete by this project; `Yaw` has the same for yaw. Each floor there is that of one whole number over another, and

@@ -1,4 +1,4 @@
-use Rattle.std.proofs.Common.{arith, rules}
+use Rattle.std.proofs.Common.{arith, refl, rules}
 use Rattle.dp_plant.specs.BuiltInPlant.{built_in_plant}
 use Rattle.dp_machine.proofs.BuiltIn as built_in
 use Rattle.dp_machine.proofs.laws.built_in_plant_is_sound.Goals as goal
@@ -7,6 +7,7 @@ pub returns : goal.returns
 unfolding built_in_plant
 returns c = record {
   within = record {
+    version = (refl, (refl, refl));
     cycle_low = omega arith;
     cycle_high = omega arith;
     origin = record { latitude = omega arith; longitude = omega arith };
