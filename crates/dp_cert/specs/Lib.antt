@@ -9,7 +9,6 @@ pub mod Width
 pub mod Valid
 pub mod Sound
 pub mod Bound
-
 pub use Rattle.dp_cert.specs.Matrices.{absolute, absolute_rows, column, contraction_matrix, output_matrix, unit}
 pub use Rattle.dp_cert.specs.Loop.{axis_three, bias_row, loop_three, place_row, velocity_row}
 pub use Rattle.dp_cert.specs.WaveLoop.{loop_five}

@@ -16,7 +16,7 @@ pub use Rattle.dp_core.specs.ComputerState.{after_run, after_skew, after_stop, a
 pub use Rattle.dp_core.specs.Inside.{IsComputer, computer_state}
 pub use Rattle.dp_core.specs.Mode.{mode}
 pub use Rattle.dp_core.specs.Trajectory.{last_issue}
-pub use Rattle.dp_core.specs.Voting.{answer, answer_if, given_ballot, message_of, taken_force, taken_forces}
+pub use Rattle.dp_core.specs.Voting.{answer, answer_if, ballot, given_ballot, message_of, taken_force, taken_forces}
 pub use Rattle.dp_core.specs.History.{answer_to_run, answers_to_wire, history, seen_of}
 pub use Rattle.dp_core.specs.Faulty.{AtMostOneFaulty}
 pub use Rattle.dp_core.specs.WorldState.{IsAllowed, after, last_of, message_by, voter_of}

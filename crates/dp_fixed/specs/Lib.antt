@@ -4,7 +4,6 @@ pub mod Order
 pub mod Turns
 pub mod Roots
 pub mod Laws
-
 pub use Rattle.dp_fixed.specs.Scale.{full_scale, full_scale_squared}
 pub use Rattle.dp_fixed.specs.Division.{IsCeil, IsFloor, ceil_of, floor_of}
 pub use Rattle.dp_fixed.specs.Order.{clamp_of, mid3_of}

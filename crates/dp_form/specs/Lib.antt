@@ -10,7 +10,6 @@ pub mod Mix
 pub mod Axes
 pub mod Clamp
 pub mod ProductLaws
-
 pub use Rattle.dp_form.specs.Vectors.{apply, dot, entry, row}
 pub use Rattle.dp_form.specs.Form.{HasSize, IsNonNegative, IsSymmetric, form}
 pub use Rattle.dp_form.specs.Range.{IsSmallSquare, IsWithin}

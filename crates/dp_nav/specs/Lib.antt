@@ -8,7 +8,6 @@ pub mod Mwv
 pub mod Plain
 pub mod ReadingRanges
 pub mod Sensed
-
 pub use Rattle.dp_nav.specs.Decimals.{is_decimal, is_point}
 pub use Rattle.dp_nav.specs.Turns.{turn_in, turn_of}
 pub use Rattle.dp_nav.specs.Hdt.{hdt_of, true_of}

@@ -2,7 +2,6 @@ pub mod Axis
 pub mod Body
 pub mod Asked
 pub mod WindPush
-
 pub use Rattle.dp_pid.specs.Axis.{IsAlongWithin, IsAxis, IsInRange, IsPlaneAnswer, IsYawAnswer, asked_along, asked_of_plane, asked_of_yaw, is_limited, scaled_twice}
 pub use Rattle.dp_pid.specs.Body.{plane_axis, surge_of, sway_of, yaw_axis, yaw_of}
 pub use Rattle.dp_pid.specs.Asked.{AreDemands, IsInBox, demands_of, limited_of}

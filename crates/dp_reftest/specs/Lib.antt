@@ -5,7 +5,6 @@ pub mod Running
 pub mod Tested
 pub mod Inside
 pub mod Laws
-
 pub use Rattle.dp_reftest.specs.Window.{AreNear, IsKept, kept_by, window_next}
 pub use Rattle.dp_reftest.specs.Verdict.{IsVerdictWithin, distance, is_jump, verdict_of, weight_of}
 pub use Rattle.dp_reftest.specs.Totals.{AreSums, EndsIn, is_same, square_of, sums_of}

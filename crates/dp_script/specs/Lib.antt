@@ -5,7 +5,6 @@ pub mod Entries
 pub mod Faults
 pub mod TimedActs
 pub mod Drafts
-
 pub use Rattle.dp_script.specs.Acts.{IsWithin, usual_acts}
 pub use Rattle.dp_script.specs.Commands.{command_of, phrase_of, phrase_of_parts, signed_of, verb_of, whole_of}
 pub use Rattle.dp_script.specs.Entries.{IsGiven, acts_of, below_of, entry_of, near_of}

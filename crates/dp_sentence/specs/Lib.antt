@@ -5,7 +5,6 @@ pub mod Fields
 pub mod Laws
 pub mod Sentence
 pub mod Written
-
 pub use Rattle.dp_sentence.specs.Address.{formatter, formatter_of, talker, talker_of}
 pub use Rattle.dp_sentence.specs.Checksum.{checksum, has_checksum_field, said}
 pub use Rattle.dp_sentence.specs.Damage.{IsDamagedBy, damage, damage_but_fields, is_bad, too_many_fields}

@@ -1,7 +1,6 @@
 pub mod Lines
 pub mod Parts
 pub mod Numbers
-
 pub use Rattle.dp_text.specs.Lines.{is_newline, lines_of, stripped}
 pub use Rattle.dp_text.specs.Parts.{cut_of, is_space, parts_of, texts_of}
 pub use Rattle.dp_text.specs.Numbers.{decimal_of, digits_after, number_of}

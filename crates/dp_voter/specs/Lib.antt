@@ -3,7 +3,6 @@ pub mod View
 pub mod Orders
 pub mod Ballots
 pub mod Laws
-
 pub use Rattle.dp_voter.specs.VoterState.{begun, new_voter}
 pub use Rattle.dp_voter.specs.View.{view_of}
 pub use Rattle.dp_voter.specs.Orders.{IsReasonFor, answer_of, ordered}
