@@ -9,7 +9,7 @@ use Rattle.dp_app.specs.Outcome.{play_of}
 use Rattle.dp_app.specs.Playing.{Shows, StopsShowing}
 use Rattle.dp_app.specs.Prefixes.{prefix_read}
 use Rattle.dp_app.proofs.ReaderSteps.{no_lines, no_refusal, none_there}
-use Rattle.dp_app.proofs.SoundPlants.{some_cycle}
+use Rattle.dp_app.proofs.SoundPlants.{origin_within, some_cycle}
 use Rattle.dp_app.proofs.Records.{cut_frames, early, long_record, of_fault, ok_of_record, prefix_of_play, whole_fault, whole_frames}
 use Rattle.dp_app.proofs.Results.{on_err, on_ok}
 use Rattle.dp_app.proofs.Showing.{shows_as, shows_then, stops_more, stops_then}
