@@ -20,10 +20,12 @@ ghost use Rattle.std.specs.Prelude.{◌≡◌, pos, All};
 
 mod check;
 pub mod laws;
+mod maker;
 mod residual;
 
 use arrayvec::ArrayVec;
 pub use check::is_nonneg;
+pub use maker::made;
 
 /// A matrix of N rows, each of N entries. Where a function takes one, its contract asks that it be symmetric.
 #[derive(Clone, Copy, Debug, PartialEq, Eq)]
