@@ -1,5 +1,5 @@
 -- The squares that are made for a matrix, step by step.
-use Rattle.std.proofs.Common.{◌≡◌, ◌<◌, ◌≤◌, ◌+◌, ◌-◌, ◌*◌, ◌^◌, ◌++◌, ℕ, zero, suc, Bool, true, false, ◌&&◌, List, [], ◌∷◌, Option, Some, None, length, refl, sym, ap, ◌∙◌, arith, ℤ, pos, negsuc, ◌*ℤ◌, ◌≤ℤ◌, ◌<ℤ◌, ◌+ℤ◌, unsigned_abs}
+use Rattle.std.proofs.Common.{◌≡◌, ◌<◌, ◌≤◌, ◌+◌, ◌-◌, ◌*◌, ◌^◌, ◌++◌, ℕ, zero, suc, Bool, true, false, ◌&&◌, List, [], ◌∷◌, Option, Some, None, length, refl, sym, ap, ◌∙◌, arith, ℤ, pos, negsuc, ◌*ℤ◌, ◌≤ℤ◌, ◌<ℤ◌, unsigned_abs}
 use Rattle.std.proofs.Common.{subst, ◌⊎◌, ⊎_elim, FitsSigned, ap₂, if◌then◌else◌}
 use Rattle.std.proofs.lemmas.List.{get_or-set_other}
 use Rattle.std.proofs.lemmas.Grind.{get_or-set_at}
@@ -8,11 +8,10 @@ use Rattle.std.specs.Prelude.{slice_index_or, slice_set}
 use native.Mathlib.Numerals.{unary_clauses}
 use Rattle.std.specs.Prelude.{int_le, int_lt}
 use Rattle.std.specs.Int.{int_div_euclid}
-use Rattle.std.specs.List.{list_all}
-use Rattle.std.proofs.lemmas.Int.{ints, by_lt_z}
+use Rattle.std.proofs.lemmas.Int.{ints}
 use Rattle.dp_form.proofs.Entries.{place, residual-push}
-use Rattle.dp_form.proofs.Order.{mul_le, mul_nonneg, mul_pos}
-use Rattle.dp_form.proofs.Ring.{var, num, ◌⊕◌, ◌⊗◌, ring}
+use Rattle.dp_form.proofs.Order.{mul_le, mul_nonneg}
+use Rattle.dp_form.proofs.Ring.{var, num, ◌⊗◌, ring}
 use Rattle.dp_form.specs.Vectors.{entry, row}
 use Rattle.dp_form.specs.Residual.{residual}
 use Rattle.dp_form.specs.declared.Square.{Square}

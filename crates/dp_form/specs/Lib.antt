@@ -11,7 +11,6 @@ pub mod Axes
 pub mod Clamp
 pub mod ProductLaws
 pub mod Made
-
 pub use Rattle.dp_form.specs.Vectors.{apply, dot, entry, row}
 pub use Rattle.dp_form.specs.Form.{HasSize, IsNonNegative, IsSymmetric, form}
 pub use Rattle.dp_form.specs.Range.{IsSmallSquare, IsWithin}

@@ -150,11 +150,17 @@ fn five_rows(rt: HostRuntime) {
 fn made_squares(rt: HostRuntime) {
     let s = three(1073741824, 536870912, 0, 1073741824, 0, 1073741824);
     let w = made(&s);
-    assert_eq!(rt; w.list.as_slice(), [square(1020, 1024, 514, 0), square(764, 0, 1024, 0)].as_slice());
+    assert_eq!(rt;
+        w.list.as_slice(),
+        [square(1020, 1024, 514, 0), square(764, 0, 1024, 0)].as_slice()
+    );
     assert_eq!(rt; is_nonneg(&s, &w), Ok(()));
 
     let s = three(1024, 512, 0, 1024, 0, 1024);
     let w = made(&s);
-    assert_eq!(rt; w.list.as_slice(), [square(1020, 1, 1, 0), square(4, 0, 1, 0)].as_slice());
+    assert_eq!(rt;
+        w.list.as_slice(),
+        [square(1020, 1, 1, 0), square(4, 0, 1, 0)].as_slice()
+    );
     assert_eq!(rt; is_nonneg(&s, &w), Err(NotShown { row: 0, short: 504 }));
 }

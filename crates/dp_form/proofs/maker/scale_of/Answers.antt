@@ -1,6 +1,5 @@
-use Rattle.std.proofs.Common.{arith, ap, ◌∙◌, pos, ℤ, ◌*ℤ◌, ◌≤ℤ◌, ◌<ℤ◌, FitsSigned, to_z}
+use Rattle.std.proofs.Common.{arith, ◌∙◌, ◌*ℤ◌, FitsSigned, to_z}
 use Rattle.std.proofs.lemmas.Int.{ints, to_z-of_z}
-use Rattle.std.specs.Int.{int_div_euclid}
 use mir.Syntax.{w128}
 use Rattle.dp_form.proofs.MadeLaws.{scale_ends, scale_found, scale_further, scale_half, scale_low, square_fits, square_low}
 use Rattle.dp_form.proofs.maker.scale_of.Goals as goal

@@ -1,4 +1,4 @@
-use Rattle.std.proofs.Common.{arith, pos, ◌*ℤ◌, FitsSigned}
+use Rattle.std.proofs.Common.{arith, ◌*ℤ◌, FitsSigned}
 use Rattle.std.proofs.lemmas.Int.{ints, to_z-of_z}
 use mir.Syntax.{w128}
 use Rattle.dp_form.proofs.Order.{mul_pos}

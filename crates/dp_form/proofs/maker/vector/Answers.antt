@@ -1,4 +1,4 @@
-use Rattle.std.proofs.Common.{◌≡◌, ◌<◌, ◌^◌, pos, ℕ, ◌+◌, length, arith, ℤ, FitsSigned, to_z, of_z, ap, ◌∙◌, sym, subst, below_more}
+use Rattle.std.proofs.Common.{◌≡◌, ◌<◌, ◌^◌, pos, length, arith, ℤ, FitsSigned, to_z, of_z, ap, ◌∙◌, sym, subst, below_more}
 use Rattle.std.proofs.lemmas.Int.{ints, to_z-of_z}
 use Rattle.std.proofs.lemmas.List.{length-set}
 use mir.Syntax.{w64, w128}
@@ -67,8 +67,8 @@ returns-clause-value g c =
     let wide : length r ≡ g.row.N = inv.wide 0 (omega (arith, c.requires.i_in, c.loop-j-test.false)) in
     let long : length (parts c.args.i d s 0 r) ≡ g.row.N = length_parts c.args.i d s 0 r ∙ wide in
     let all = vector_some c.loop-j.l (parts c.args.i d s 0 r) (inv.long ∙ sym long)
-      (λ k h. inv.is k (omega (arith, h, inv.long, c.loop-j-test.false)))
-      (λ k h. inv.fits k (omega (arith, h, long, c.loop-j-test.false))) in
+    (λ k h. inv.is k (omega (arith, h, inv.long, c.loop-j-test.false)))
+    (λ k h. inv.fits k (omega (arith, h, long, c.loop-j-test.false))) in
     simp to_z-of_z at all
 
 pub returns-clause-size : goal.returns-clause-size

@@ -1,4 +1,4 @@
-use Rattle.std.proofs.Common.{◌≡◌, pos, ◌^◌, ap, ap₂, ◌∙◌, arith, ℤ, ◌*ℤ◌, FitsSigned}
+use Rattle.std.proofs.Common.{pos, ◌^◌, ap, ap₂, ◌∙◌, arith, ℤ, ◌*ℤ◌, FitsSigned}
 use Rattle.std.specs.Int.{int_div_euclid}
 use Rattle.std.proofs.lemmas.Int.{ints, to_z-of_z}
 use mir.Syntax.{w128}
