@@ -15,7 +15,7 @@ use Rattle.dp_form.proofs.Ring.{var, num, ◌⊗◌, ring}
 use Rattle.dp_form.specs.Vectors.{entry, row}
 use Rattle.dp_form.specs.Residual.{residual}
 use Rattle.dp_form.specs.declared.Square.{Square}
-use Rattle.dp_form.specs.Made.{part, parts, quarter, shift, next_square, is_taken, square_at, eased, weight, with_square, left_after, made_from, scale_of, are_small}
+use Rattle.dp_form.specs.Made.{part, parts, quarter, shift, next_square, is_taken, square_at, trim, weight, with_square, left_after, made_from, scale_of, are_small}
 
 -- ---- floors
 pub floor_low : (n d : ℤ) → pos 0 ≤ℤ n → pos 1 ≤ℤ d → pos 0 ≤ℤ int_div_euclid n d
@@ -251,36 +251,36 @@ weight_large w h k = grind (arith, ints)
 weight_small : (w : ℤ) → pos 1 ≤ℤ w → is_small w ≡ true → int_le w (pos (2 ^ 40)) ≡ true
 weight_small w h k = grind (arith, ints)
 
-pub next_none_d : {n : ℕ} (i : ℕ) (left : List (List ℤ)) (w : ℤ) (o : Option (Square n)) → w ≡ weight (eased (entry left i i)) → pos 1 ≤ℤ w → None ≡ (if is_small w then Some w else None) → o ≡ None →
+pub next_none_d : {n : ℕ} (i : ℕ) (left : List (List ℤ)) (w : ℤ) (o : Option (Square n)) → w ≡ weight (trim (entry left i i)) → pos 1 ≤ℤ w → None ≡ (if is_small w then Some w else None) → o ≡ None →
     o ≡ next_square {n = n} i left
 next_none_d {n} i left w o e h k m =
-    let d = weight (eased (entry left i i)) in
+    let d = weight (trim (entry left i i)) in
     let large : int_le d (pos (2 ^ 40)) ≡ false = ap (λ (z : ℤ). int_le z (pos (2 ^ 40))) (sym e) ∙ weight_large w h (withheld (is_small w) w k) in
-    let f : is_taken {n = n} i left (square_at i left) ≡ false = second_false (int_le (pos 1) (entry left i i)) (int_le d (pos (2 ^ 40))) (are_small (parts i d (scale_of (eased (entry left i i))) 0 (row left i))) large in
+    let f : is_taken {n = n} i left (square_at i left) ≡ false = second_false (int_le (pos 1) (entry left i i)) (int_le d (pos (2 ^ 40))) (are_small (parts i d (scale_of (trim (entry left i i))) 0 (row left i))) large in
     m ∙ sym (decided {n = n} i left false f)
 
-pub next_none_l : {n : ℕ} (i : ℕ) (left : List (List ℤ)) (w s : ℤ) (o : Option (Square n)) → w ≡ weight (eased (entry left i i)) → s ≡ scale_of (eased (entry left i i)) →
+pub next_none_l : {n : ℕ} (i : ℕ) (left : List (List ℤ)) (w s : ℤ) (o : Option (Square n)) → w ≡ weight (trim (entry left i i)) → s ≡ scale_of (trim (entry left i i)) →
     None ≡ (if are_small (parts i w s 0 (row left i)) then Some (parts i w s 0 (row left i)) else None) → o ≡ None → o ≡ next_square {n = n} i left
 next_none_l {n} i left w s o e g k m =
-    let d = weight (eased (entry left i i)) in
+    let d = weight (trim (entry left i i)) in
     let same = ap₂ (λ (a b : ℤ). are_small (parts i a b 0 (row left i))) (sym e) (sym g) in
     let large = same ∙ withheld (are_small (parts i w s 0 (row left i))) (parts i w s 0 (row left i)) k in
-    let f : is_taken {n = n} i left (square_at i left) ≡ false = third_false (int_le (pos 1) (entry left i i)) (int_le d (pos (2 ^ 40))) (are_small (parts i d (scale_of (eased (entry left i i))) 0 (row left i))) large in
+    let f : is_taken {n = n} i left (square_at i left) ≡ false = third_false (int_le (pos 1) (entry left i i)) (int_le d (pos (2 ^ 40))) (are_small (parts i d (scale_of (trim (entry left i i))) 0 (row left i))) large in
     m ∙ sym (decided {n = n} i left false f)
 
 abbrev as_square : {n : ℕ} → ℤ → List ℤ → Square n
 as_square d l = record { d = d; l = l }
 
-pub next_some : {n : ℕ} (i : ℕ) (left : List (List ℤ)) (w s d : ℤ) (l : List ℤ) → w ≡ weight (eased (entry left i i)) → s ≡ scale_of (eased (entry left i i)) → pos 1 ≤ℤ entry left i i → pos 1 ≤ℤ w →
+pub next_some : {n : ℕ} (i : ℕ) (left : List (List ℤ)) (w s d : ℤ) (l : List ℤ) → w ≡ weight (trim (entry left i i)) → s ≡ scale_of (trim (entry left i i)) → pos 1 ≤ℤ entry left i i → pos 1 ≤ℤ w →
     Some d ≡ (if is_small w then Some w else None) → Some l ≡ (if are_small (parts i w s 0 (row left i)) then Some (parts i w s 0 (row left i)) else None) → Some (as_square {n = n} d l) ≡ next_square {n = n} i left
 next_some {n} i left w s d l e g p h k m =
-    let dd = weight (eased (entry left i i)) in
+    let dd = weight (trim (entry left i i)) in
     let same = ap₂ (λ (a b : ℤ). parts i a b 0 (row left i)) (sym e) (sym g) in
     let kd = given (is_small w) w d k in
     let kl = given (are_small (parts i w s 0 (row left i))) (parts i w s 0 (row left i)) l m in
     let fd : int_le dd (pos (2 ^ 40)) ≡ true = ap (λ (z : ℤ). int_le z (pos (2 ^ 40))) (sym e) ∙ weight_small w h kd.0 in
     let fl = ap (λ (z : List ℤ). are_small z) same ∙ kl.0 in
-    let f : is_taken {n = n} i left (square_at i left) ≡ true = all_true (int_le (pos 1) (entry left i i)) (int_le dd (pos (2 ^ 40))) (are_small (parts i dd (scale_of (eased (entry left i i))) 0 (row left i))) (le_yes (pos 1) (entry left i i) p) fd fl in
+    let f : is_taken {n = n} i left (square_at i left) ≡ true = all_true (int_le (pos 1) (entry left i i)) (int_le dd (pos (2 ^ 40))) (are_small (parts i dd (scale_of (trim (entry left i i))) 0 (row left i))) (le_yes (pos 1) (entry left i i) p) fd fl in
     ap₂ (λ (a : ℤ) (b : List ℤ). Some (as_square {n = n} a b)) (kd.1 ∙ e) (kl.1 ∙ sym same) ∙ sym (decided {n = n} i left true f)
 
 -- ---- a round of the loop

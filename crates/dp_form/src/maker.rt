@@ -1,11 +1,11 @@
-//! Squares that are made for a matrix.
+//! Squares that are made for a matrix, from the matrix alone.
 ghost use Rattle.std.specs.Int.{int_div_euclid};
 ghost use Rattle.std.specs.Prelude.{◌≡◌, ◌≤◌, ◌<◌, ◌*◌, ◌^◌, ◌⊎◌, pos, ◌+ℤ◌, ◌*ℤ◌, ◌≤ℤ◌, ◌-ℤ◌, int_le, All, IfSome, Some, None, if◌then◌else◌, unsigned_abs};
 ghost use Rattle.dp_form.specs.Vectors.{row};
 ghost use Rattle.dp_form.specs.Form.{IsSymmetric};
 ghost use Rattle.dp_form.specs.Residual.{residual};
 ghost use Rattle.dp_form.specs.Range.{IsWithin, IsSmallSquare};
-ghost use Rattle.dp_form.specs.Made.{are_small, eased, made_of, next_square, part, parts, scale_of, shift, weight};
+ghost use Rattle.dp_form.specs.Made.{trim, made_of, next_square, part, scale_of, vector_of, weight};
 
 use super::residual::left_at;
 use super::{Square, Squares, Sym};
@@ -25,10 +25,10 @@ fn over(n: i128, d: i128) -> i128
     n.div_euclid(d)
 }
 
-// A little less than a diagonal entry.
-fn eased(p: i128) -> i128
+// A diagonal entry less a 256th of it.
+fn trim(p: i128) -> i128
     requires low { pos 1 ≤ℤ p }
-    ensures value { result ≡ eased p }
+    ensures value { result ≡ trim p }
     ensures low { pos 1 ≤ℤ result }
     ensures high { result ≤ℤ p }
 {
@@ -111,7 +111,8 @@ fn part(i: usize, d: i128, scale: i128, j: usize, r: i128) -> i128
 
 // The same number in 64 bits, none where it is past 2^40.
 fn small(z: i128) -> Option<i64>
-    ensures value { result ≡ (if int_le (pos (unsigned_abs z)) (pos (2 ^ 40)) then Some z else None) }
+    ensures value { result
+        ≡ (if int_le (pos (unsigned_abs z)) (pos (2 ^ 40)) then Some z else None) }
     ensures size { IfSome result (IsWithin (2 ^ 40)) }
 {
     if z.unsigned_abs() <= LIMIT.unsigned_abs() {
@@ -135,7 +136,8 @@ fn vector<const N: usize>(
     requires d { pos 1 ≤ℤ d }
     requires scale { pos 1 ≤ℤ scale }
     requires room { (d *ℤ scale) ≤ℤ pos (5 * 2 ^ 121) }
-    ensures value { result ≡ (if are_small (parts i d scale 0 (row (residual s.now.at w.now.list.items) i)) then Some (parts i d scale 0 (row (residual s.now.at w.now.list.items) i)) else None) }
+    ensures value { result
+        ≡ vector_of i d scale (row (residual s.now.at w.now.list.items) i) }
     ensures size { IfSome result (All (IsWithin (2 ^ 40))) }
 {
     let mut l = [0; N];
@@ -158,7 +160,7 @@ fn next_square<const N: usize>(s: &Sym<N>, w: &Squares<N>, i: usize) -> Option<S
     if p < 1 {
         return None;
     }
-    let q = eased(p);
+    let q = trim(p);
     let scale = scale_of(q);
     let weight = weight(q, scale);
     let d = small(weight)?;
@@ -168,9 +170,12 @@ fn next_square<const N: usize>(s: &Sym<N>, w: &Squares<N>, i: usize) -> Option<S
 
 /// Squares that are made for s, at most one for each row but the last.
 ///
-/// They are meant to show the matrix where it is positive enough: each takes from what is left its row's diagonal entry but for a 256th,
-/// so that the rest of the row becomes small beside it. Whether they do show it, [`is_nonneg`](super::is_nonneg) says. N is 3 or 5, s is
-/// symmetric with entries within ±2^121.
+/// Row by row, a square takes from what the squares before it left of s the row's diagonal entry
+/// but for a 256th, and with it most of the rest of the row. There is none for a row whose diagonal
+/// entry is then below 1, nor where a number of the square would pass 2^40. The squares show s
+/// where its form is positive enough: whether they do, [`is_nonneg`](super::is_nonneg) says.
+///
+/// N is 3 or 5, and s is symmetric with entries within ±2^121. Nothing is refused.
 #[tactic(auto, unfolding(crate::specs::Made::made_of))]
 pub fn made<const N: usize>(s: &Sym<N>) -> Squares<N>
     requires size { (N ≡ 3) ⊎ (N ≡ 5) }

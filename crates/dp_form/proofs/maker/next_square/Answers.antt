@@ -4,21 +4,21 @@ use mir.Syntax.{w64, w128}
 use Rattle.dp_form.specs.Vectors.{entry}
 use Rattle.dp_form.specs.Residual.{residual}
 use Rattle.dp_form.specs.Range.{IsWithin}
-use Rattle.dp_form.specs.Made.{eased, scale_of, weight}
+use Rattle.dp_form.specs.Made.{trim, scale_of, weight}
 use Rattle.dp_form.proofs.MadeLaws.{next_none_d, next_none_l, next_some, small_given}
 use Rattle.dp_form.proofs.maker.next_square.Goals as goal
 
 pub returns-in_err-d-clause-value : goal.returns-in_err-d-clause-value
 returns-in_err-d-clause-value g c =
     let fp : FitsSigned w128 c.left_at-p.result = record { sfits = c.left_at-p.type_inv } in
-    let fq : FitsSigned w128 c.eased-q.result = record { sfits = c.eased-q.type_inv } in
+    let fq : FitsSigned w128 c.trim-q.result = record { sfits = c.trim-q.type_inv } in
     let fs : FitsSigned w128 c.scale_of-scale.result = record { sfits = c.scale_of-scale.type_inv } in
     let fw : FitsSigned w128 c.weight-weight.result = record { sfits = c.weight-weight.type_inv } in
     let left = residual c.args.s.now.at c.args.w.now.list.items in
-    let vq = simp to_z-of_z at c.eased-q.ensures.value in
-    let q : c.eased-q.result ≡ eased (entry left c.args.i c.args.i) = vq ∙ ap (λ (z : ℤ). eased z) c.left_at-p.ensures.value in
+    let vq = simp to_z-of_z at c.trim-q.ensures.value in
+    let q : c.trim-q.result ≡ trim (entry left c.args.i c.args.i) = vq ∙ ap (λ (z : ℤ). trim z) c.left_at-p.ensures.value in
     let vw = simp to_z-of_z at c.weight-weight.ensures.value in
-    let w : c.weight-weight.result ≡ weight (eased (entry left c.args.i c.args.i)) = vw ∙ ap (λ (z : ℤ). weight z) q in
+    let w : c.weight-weight.result ≡ weight (trim (entry left c.args.i c.args.i)) = vw ∙ ap (λ (z : ℤ). weight z) q in
     let value = simp to_z-of_z at c.in_err-d.ensures.value in
     next_none_d c.args.i left c.weight-weight.result c.from_residual.result w c.weight-weight.ensures.low value c.from_residual.ensures
 
@@ -32,33 +32,33 @@ vector-requires g c =
 pub returns-in_err-l-clause-value : goal.returns-in_err-l-clause-value
 returns-in_err-l-clause-value g c =
     let fp : FitsSigned w128 c.left_at-p.result = record { sfits = c.left_at-p.type_inv } in
-    let fq : FitsSigned w128 c.eased-q.result = record { sfits = c.eased-q.type_inv } in
+    let fq : FitsSigned w128 c.trim-q.result = record { sfits = c.trim-q.type_inv } in
     let fs : FitsSigned w128 c.scale_of-scale.result = record { sfits = c.scale_of-scale.type_inv } in
     let fw : FitsSigned w128 c.weight-weight.result = record { sfits = c.weight-weight.type_inv } in
     let left = residual c.args.s.now.at c.args.w.now.list.items in
-    let vq = simp to_z-of_z at c.eased-q.ensures.value in
-    let q : c.eased-q.result ≡ eased (entry left c.args.i c.args.i) = vq ∙ ap (λ (z : ℤ). eased z) c.left_at-p.ensures.value in
+    let vq = simp to_z-of_z at c.trim-q.ensures.value in
+    let q : c.trim-q.result ≡ trim (entry left c.args.i c.args.i) = vq ∙ ap (λ (z : ℤ). trim z) c.left_at-p.ensures.value in
     let vw = simp to_z-of_z at c.weight-weight.ensures.value in
-    let w : c.weight-weight.result ≡ weight (eased (entry left c.args.i c.args.i)) = vw ∙ ap (λ (z : ℤ). weight z) q in
+    let w : c.weight-weight.result ≡ weight (trim (entry left c.args.i c.args.i)) = vw ∙ ap (λ (z : ℤ). weight z) q in
     let vs = simp to_z-of_z at c.scale_of-scale.ensures.value in
-    let s : c.scale_of-scale.result ≡ scale_of (eased (entry left c.args.i c.args.i)) = vs ∙ ap (λ (z : ℤ). scale_of z) q in
+    let s : c.scale_of-scale.result ≡ scale_of (trim (entry left c.args.i c.args.i)) = vs ∙ ap (λ (z : ℤ). scale_of z) q in
     let value = simp to_z-of_z at c.in_err-l.ensures.value in
     next_none_l c.args.i left c.weight-weight.result c.scale_of-scale.result c.from_residual-in_err-l.result w s value c.from_residual-in_err-l.ensures
 
 pub returns-clause-value : goal.returns-clause-value
 returns-clause-value g c =
     let fp : FitsSigned w128 c.left_at-p.result = record { sfits = c.left_at-p.type_inv } in
-    let fq : FitsSigned w128 c.eased-q.result = record { sfits = c.eased-q.type_inv } in
+    let fq : FitsSigned w128 c.trim-q.result = record { sfits = c.trim-q.type_inv } in
     let fs : FitsSigned w128 c.scale_of-scale.result = record { sfits = c.scale_of-scale.type_inv } in
     let fw : FitsSigned w128 c.weight-weight.result = record { sfits = c.weight-weight.type_inv } in
     let left = residual c.args.s.now.at c.args.w.now.list.items in
     let vp = c.left_at-p.ensures.value in
-    let vq = simp to_z-of_z at c.eased-q.ensures.value in
-    let q : c.eased-q.result ≡ eased (entry left c.args.i c.args.i) = vq ∙ ap (λ (z : ℤ). eased z) vp in
+    let vq = simp to_z-of_z at c.trim-q.ensures.value in
+    let q : c.trim-q.result ≡ trim (entry left c.args.i c.args.i) = vq ∙ ap (λ (z : ℤ). trim z) vp in
     let vw = simp to_z-of_z at c.weight-weight.ensures.value in
-    let w : c.weight-weight.result ≡ weight (eased (entry left c.args.i c.args.i)) = vw ∙ ap (λ (z : ℤ). weight z) q in
+    let w : c.weight-weight.result ≡ weight (trim (entry left c.args.i c.args.i)) = vw ∙ ap (λ (z : ℤ). weight z) q in
     let vs = simp to_z-of_z at c.scale_of-scale.ensures.value in
-    let s : c.scale_of-scale.result ≡ scale_of (eased (entry left c.args.i c.args.i)) = vs ∙ ap (λ (z : ℤ). scale_of z) q in
+    let s : c.scale_of-scale.result ≡ scale_of (trim (entry left c.args.i c.args.i)) = vs ∙ ap (λ (z : ℤ). scale_of z) q in
     let size : IsWithin (2 ^ 40) c.in_ok-d.d = c.in_ok-d.ensures.size in
     let fd : FitsSigned w64 c.in_ok-d.d = omega (arith, ints, size) in
     let vd = simp to_z-of_z at c.in_ok-d.ensures.value in
