@@ -1,5 +1,5 @@
--- The squares that are made for a symmetric matrix, at most one for each row but the last: what they
--- leave is small beside its diagonal.
+-- The squares that are made for a symmetric matrix, at most one for each row but the last: what
+-- they leave is small beside its diagonal.
 use Rattle.std.specs.Prelude.{ℕ, zero, suc, ◌-◌, ◌^◌, ℤ, pos, ◌+ℤ◌, ◌-ℤ◌, ◌*ℤ◌, int_lt, int_le, nat_lt, nat_eq, ◌&&◌, Bool, List, [], ◌∷◌, Option, Some, None, if◌then◌else◌, unsigned_abs}
 use Rattle.std.specs.Int.{int_div_euclid}
 use Rattle.std.specs.List.{list_all}

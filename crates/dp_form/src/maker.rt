@@ -1,10 +1,7 @@
 //! Squares that are made for a matrix, from the matrix alone.
 ghost use Rattle.std.specs.Int.{int_div_euclid};
 ghost use Rattle.std.specs.Prelude.{◌≡◌, ◌≤◌, ◌<◌, ◌*◌, ◌^◌, ◌⊎◌, pos, ◌+ℤ◌, ◌*ℤ◌, ◌≤ℤ◌, ◌-ℤ◌, int_le, All, IfSome, Some, None, if◌then◌else◌, unsigned_abs};
-ghost use Rattle.dp_form.specs.Vectors.{row};
-ghost use Rattle.dp_form.specs.Form.{IsSymmetric};
-ghost use Rattle.dp_form.specs.Residual.{residual};
-ghost use Rattle.dp_form.specs.Range.{IsWithin, IsSmallSquare};
+ghost use Rattle.dp_form.specs.{IsSmallSquare, IsSymmetric, IsWithin, residual, row};
 ghost use Rattle.dp_form.specs.Made.{trim, made_of, next_square, part, scale_of, vector_of, weight};
 
 use super::residual::left_at;
