@@ -14,3 +14,4 @@ pub mod Mix
 pub mod Axes
 pub mod Clamp
 pub mod Literals
+pub mod MadeLaws

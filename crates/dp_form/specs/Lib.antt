@@ -10,6 +10,7 @@ pub mod Mix
 pub mod Axes
 pub mod Clamp
 pub mod ProductLaws
+pub mod Made
 pub use Rattle.dp_form.specs.Vectors.{apply, dot, entry, row}
 pub use Rattle.dp_form.specs.Form.{HasSize, IsNonNegative, IsSymmetric, form}
 pub use Rattle.dp_form.specs.Range.{IsSmallSquare, IsWithin}
@@ -21,3 +22,4 @@ pub use Rattle.dp_form.specs.Mix.{MixBelow}
 pub use Rattle.dp_form.specs.Axes.{AxesSplit, ShortPairBound}
 pub use Rattle.dp_form.specs.Clamp.{ClampShares}
 pub use Rattle.dp_form.specs.ProductLaws.{FactorsCancel, FactorsKeepOrder, ProductsAssociate, ProductsDistribute, SquaresAreNonNegative}
+pub use Rattle.dp_form.specs.Made.{made_of}

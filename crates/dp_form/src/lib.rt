@@ -13,6 +13,9 @@
 //! - no intermediate result passes 128 bits: eight squares of at most 2^120 are taken from entries of at most 2^121,
 //!   and five of what is left are added up.
 //!
+//! [`made`] makes squares for a matrix, as its definition says to the last digit; nothing is promised of them but that
+//! [`is_nonneg`] takes them.
+//!
 //! [`laws`] has the laws on such forms. Nothing here allocates.
 #![tactic(auto)]
 
@@ -20,10 +23,12 @@ ghost use Rattle.std.specs.Prelude.{◌≡◌, pos, All};
 
 mod check;
 pub mod laws;
+mod maker;
 mod residual;
 
 use arrayvec::ArrayVec;
 pub use check::is_nonneg;
+pub use maker::made;
 
 /// A matrix of N rows, each of N entries. Where a function takes one, its contract asks that it be symmetric.
 #[derive(Clone, Copy, Debug, PartialEq, Eq)]

@@ -3,7 +3,7 @@ ghost use Rattle.std.specs.Prelude.{◌≡◌, ◌<◌, ◌+◌, ◌^◌, pos, n
 ghost use Rattle.dp_form.specs.{IsSmallSquare, IsSymmetric, IsWithin};
 
 use super::residual::left_at;
-use super::{NotShown, Square, Squares, Sym, is_nonneg};
+use super::{NotShown, Square, Squares, Sym, is_nonneg, made};
 use arrayvec::ArrayVec;
 
 fn entry(a: i64) -> i128
@@ -143,4 +143,24 @@ fn five_rows(rt: HostRuntime) {
     assert_eq!(rt; is_nonneg(&s, &w), Ok(()));
     let s = five(158, -53248, -480, 354418688, -2129920, 76800, 16, -1);
     assert_eq!(rt; is_nonneg(&s, &w), Err(NotShown { row: 4, short: 1 }));
+}
+
+// The squares that are made for the first matrix, with and without a factor of 2^20.
+#[test]
+fn made_squares(rt: HostRuntime) {
+    let s = three(1073741824, 536870912, 0, 1073741824, 0, 1073741824);
+    let w = made(&s);
+    assert_eq!(rt;
+        w.list.as_slice(),
+        [square(1020, 1024, 514, 0), square(764, 0, 1024, 0)].as_slice()
+    );
+    assert_eq!(rt; is_nonneg(&s, &w), Ok(()));
+
+    let s = three(1024, 512, 0, 1024, 0, 1024);
+    let w = made(&s);
+    assert_eq!(rt;
+        w.list.as_slice(),
+        [square(1020, 1, 1, 0), square(4, 0, 1, 0)].as_slice()
+    );
+    assert_eq!(rt; is_nonneg(&s, &w), Err(NotShown { row: 0, short: 504 }));
 }
