@@ -86,7 +86,7 @@ fn a_cut_record_is_played(rt: HostRuntime) -> Result<(), Fail> {
         (
             72,
             76,
-            "0~cycle 0 LLL\nt0 F 0 0 0 0\nt1 F 0 0 0 0\nt2 F 0 0 0 0\ncycle 1 LLL\nt0 F -6836 -6836 -6836 -6836\nt1 F 0 0 0 0\nt2 F 0 0 0 0\ncycle 2 LLL\nt0 F -1272327 -1272327 -1272327 -1272327\nt1 F 0 0 0 0\nt2 F 0 0 0 0\nend 3\n",
+            "0~cycle 0 LLL\nt0 F 0 0 0 0\nt1 F 0 0 0 0\nt2 F 0 0 0 0\ncycle 1 LLL\nt0 F -6836 -6836 -6836 -6836\nt1 F 0 0 0 0\nt2 F 0 0 0 0\ncycle 2 LLL\nt0 F -642733 -642733 -642733 -642733\nt1 F 0 0 0 0\nt2 F 0 0 0 0\nend 3\n",
         ),
     ];
     for (first, last, wanted) in rows {

@@ -1,4 +1,4 @@
-use Rattle.std.proofs.Common.{ap}
+use Rattle.std.proofs.Common.{ap, rules, ℕ}
 use Rattle.dp_frame.specs.Feeds.{given}
 use Rattle.dp_app.proofs.Showing.{shows_nothing}
 use Rattle.dp_app.proofs.player.Player.play_feed.Goals as goal
@@ -11,3 +11,6 @@ returns-in-Fault-clause-ok g c = λ fs. shows_nothing c.args.self.now _ fs (give
 
 pub returns-in-TooMany-clause-ok : goal.returns-in-TooMany-clause-ok
 returns-in-TooMany-clause-ok g c = λ fs. shows_nothing c.args.self.now _ fs (given c.args.feed.now) (ap given c.in-TooMany.is)
+
+pub returns-in_err-play_gap-in-Closed-clause-err : goal.returns-in_err-play_gap-in-Closed-clause-err
+returns-in_err-play_gap-in-Closed-clause-err g c = λ fs. rw c.in-Closed.is (search (rules, c.in_err-play_gap-in-Closed.ensures.err fs))
