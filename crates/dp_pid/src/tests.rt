@@ -1,4 +1,5 @@
 //! Demands of the built-in plant's gains and box, but for sway's own gains; the values come from a separate program in Python.
+ghost use Rattle.std.specs.Prelude.{◌<◌};
 ghost use Rattle.dp_plant.specs.{IsLawGains, IsPair, IsPlaneBox, IsPlaneSetpoint, IsPlaneWithin, IsYawBox, IsYawGains, IsYawSetpoint, IsYawWithin};
 ghost use Rattle.dp_pid.specs.{IsWindPush};
 
