@@ -3,10 +3,12 @@ ghost use Rattle.std.specs.Prelude.{◌≡◌, ◌<◌, ◌+◌, All, length};
 ghost use Rattle.dp_cert.specs.{IsShareRow};
 ghost use Rattle.dp_form.specs.{IsSymmetric};
 
-use super::{CertFault, accept};
+use super::{Accepted, CertFault, accept};
 use arrayvec::ArrayVec;
+use dp_fixed::root_up;
 use dp_form::{Square, Squares, Sym};
 use dp_plant::{Box3, Cert, Gains, Lists, Parts, RawCase, YawGains};
+use std::process::Abort;
 
 fn three() -> Sym<3>
     ensures symmetric { IsSymmetric 3 result.at }
@@ -327,9 +329,10 @@ fn out_of_range(rt: HostRuntime) {
     assert!(rt; is_range_of(waves, "gains.wave"));
 }
 
-fn row(surge: i32, sway: i32, yaw: i32) -> [i64; 3]
+fn row(shares: [i32; 3]) -> [i64; 3]
     ensures { IsShareRow result }
 {
+    let [surge, sway, yaw] = shares;
     [surge as i64, sway as i64, yaw as i64]
 }
 
@@ -352,44 +355,95 @@ fn none() -> ArrayVec<[i64; 3], 12>
     ArrayVec::new()
 }
 
-// Each row that differs of the three cases.
-fn shares() -> ArrayVec<[i64; 3], 12>
-    ensures rows { All IsShareRow result.items }
+// A case with these shares of six thrusters.
+fn case(rows: [[i32; 3]; 6]) -> RawCase
+    ensures rows { All IsShareRow result.b.items }
 {
-    let whole = with(with(none(), row(2622, 0, 0)), row(2621, 0, 0));
-    let sway = with(with(whole, row(0, 2097, 458)), row(0, 0, 0));
-    with(with(sway, row(5243, 0, 0)), row(0, 4194, -916))
-}
-
-#[test]
-fn bounds(rt: HostRuntime) {
-    let parts = Parts::Three(lists(output()));
-    let accepted = accept(
-        &gains(1342177, 0, 0),
-        &yaw_gains(),
-        &cert(1073217536, 1200000000, 27130, parts),
-    );
-    let case = RawCase {
+    let [t0, t1, t2, t3, t4, t5] = rows;
+    let three = with(with(with(none(), row(t0)), row(t1)), row(t2));
+    let b = with(with(with(three, row(t3)), row(t4)), row(t5));
+    RawCase {
         lost: 0,
         bounds: Box3 {
             lo: [0; 3],
             hi: [0; 3],
         },
-        b: shares(),
-    };
-    assert!(rt; accepted.is_ok());
-    if let Ok(accepted) = accepted {
-        let expected = [
-            (895, 22759835),
-            (894, 22751555),
-            (716, 18412615),
-            (0, 1048576),
-            (1789, 44462814),
-            (1431, 35776654),
-        ];
-        assert_eq!(rt;
-            accepted.copy().bounds(&case).as_slice(),
-            expected.as_slice()
+        b,
+    }
+}
+
+fn check_bounds(
+    rt: &impl Abort,
+    accepted: &Result<Accepted, CertFault>,
+    rows: [[i32; 3]; 6],
+    want: [(i128, i128); 6],
+) {
+    match accepted {
+        Ok(accepted) => {
+            let bounds = accepted.copy().bounds(&case(rows));
+            assert_eq!(rt; bounds.as_slice(), want.as_slice());
+        }
+        Err(_) => assert!(rt; false, "refused"),
+    }
+}
+
+// With no group lost, with the first and with the second: of both sample plants alike.
+#[test]
+fn bounds(rt: HostRuntime) {
+    let three = Parts::Three(lists(output()));
+    let five = Parts::Five(wave_lists(1000));
+    let still = (0, 1048576);
+    for accepted in [
+        accept(
+            &gains(1342177, 0, 0),
+            &yaw_gains(),
+            &cert(1073217536, 1200000000, 27130, three),
+        ),
+        accept(
+            &gains(1342177, 536870912, 4194304),
+            &yaw_gains(),
+            &cert(1073217536, 1200000000, 27130, five),
+        ),
+    ] {
+        let (ahead, abeam) = ([5243, 0, 0], (1431, 35776654));
+        check_bounds(
+            &rt,
+            &accepted,
+            [
+                [2622, 0, 0],
+                [2621, 0, 0],
+                [0, 2097, 458],
+                [0, 2097, 458],
+                [0, 2097, -458],
+                [0, 2097, -458],
+            ],
+            [
+                (895, 22759835),
+                (894, 22751555),
+                (716, 18412615),
+                (716, 18412615),
+                (716, 18412615),
+                (716, 18412615),
+            ],
+        );
+        let (bow, stern) = ([0, 4194, 916], [0, 4194, -916]);
+        check_bounds(
+            &rt,
+            &accepted,
+            [[0; 3], ahead, [0; 3], bow, [0; 3], stern],
+            [still, (1789, 44462814), still, abeam, still, abeam],
+        );
+        check_bounds(
+            &rt,
+            &accepted,
+            [ahead, [0; 3], bow, [0; 3], stern, [0; 3]],
+            [(1789, 44462814), still, abeam, still, abeam, still],
         );
     }
+}
+
+// The least r of the sample certificate: the root of what its form makes of the roundings, rounded up.
+#[test]
+fn least_rounding(rt: HostRuntime) {
+    assert_eq!(rt; root_up(735997884), 27130);
 }
