@@ -6,7 +6,7 @@ and winds at the edge of what counts.
 """
 
 MOST = 8796093        # mm: how far a plain place may be
-LAT, LON = 28870380000, 6910000000    # the built-in plant's origin, in 10^-7 minutes
+LAT, LON = 28870380000, 6910000000    # the sample plants' origin, in 10^-7 minutes
 PLAIN_WIRES = ["pos0", "pos1", "pos2"]
 WIRES = PLAIN_WIRES + ["gyro0", "gyro1", "gyro2", "wind0", "wind1", "wind2"] + ["grp%d" % g for g in range(8)]
 
@@ -263,6 +263,8 @@ def watch(rng):
                 angle_now, speed = noisy(rng, gust[0], 90) % 36000, min(99999, max(0, noisy(rng, gust[1], 900)))
                 lines.append("%d wind%d %s" % (time, wire, checked("WIMWV,%d.%02d,R,%d.%03d,M,A" % (
                     angle_now // 100, angle_now % 100, speed // 1000, speed % 1000))))
+        if one_in(rng, 10):
+            lines.append("%d grp%d G %d" % (time, rng.randrange(2), rng.randrange(2)))
         time += 1000 * (1 if not one_in(rng, 15) else rng.randrange(1, 9))
     return "".join(line + "\n" for line in lines)
 
@@ -278,7 +280,7 @@ def coordinate(rng):
 
 
 def force(rng):
-    return rng.choice([rng.randrange(-100000, 100001), 0, 50000000, 50000001, -30000000, -30000001, 60000000, 10 ** 18 - 1, 1 - 10 ** 18])
+    return rng.choice([rng.randrange(-100000, 100001), 0, 250000, 250001, -150000, -150001, 60000000, 10 ** 18 - 1, 1 - 10 ** 18])
 
 
 def act(rng):

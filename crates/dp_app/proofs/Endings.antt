@@ -4,7 +4,7 @@ use Rattle.std.specs.Io.KnownBytes.{Appends}
 use Rattle.dp_shell.specs.Taken.{AppendsCut}
 use Rattle.dp_shell.proofs.Taken.{appends_then, cut_after, cut_line_cut, cut_line_whole}
 use Rattle.dp_app.specs.declared.fault.Fault.{Fault}
-use Rattle.dp_app.specs.declared.fault.Fault.TheVariants.{Usage, Read, Long, BadScript, BadRecord, LongCycles, Memory}
+use Rattle.dp_app.specs.declared.fault.Fault.TheVariants.{Usage, Read, Long, BadPlant, GainsRefused, BadScript, BadRecord, LongCycles, Memory}
 use Rattle.dp_app.specs.declared.fault.File.{File}
 use Rattle.dp_app.specs.declared.status.Status.{Status}
 use Rattle.dp_app.specs.declared.status.Status.TheVariants as status
@@ -30,6 +30,8 @@ may_more failed (Read file) may = absurd may
 may_more failed Memory may = tt
 may_more failed Usage may = absurd may
 may_more failed (Long file) may = absurd may
+may_more failed (BadPlant why) may = absurd may
+may_more failed (GainsRefused why) may = absurd may
 may_more failed (BadScript line kind) may = absurd may
 may_more failed (BadRecord line kind) may = absurd may
 may_more failed (LongCycles cycle) may = absurd may

@@ -17,14 +17,14 @@ use Rattle.dp_core.specs.Mode.{cycles_begun}
 use Rattle.dp_machine.specs.Reference.{force_of}
 use Rattle.dp_machine.specs.Run.{own_setpoints}
 use Rattle.dp_core.specs.Voting.{ballot, given_ballot}
-use Rattle.dp_report.specs.Block.{BlockValue}
+use Rattle.dp_report.specs.declared.block.Block.{Block}
 use Rattle.dp_script.specs.declared.timed_act.TimedAct.{TimedAct}
 use Rattle.dp_script.specs.TimedActs.{acts_at}
 use Rattle.dp_app.specs.declared.fault.Fault.{Fault}
 use Rattle.dp_app.specs.Acting.{all_acted, cycled, played, voters}
 use Rattle.dp_app.specs.Blocks.{block_at, block_of, blocks}
 use Rattle.dp_app.specs.Headline.{FreshForcesAreReference, TellsReferenceForces}
-use Rattle.dp_app.specs.Outcome.{Play}
+use Rattle.dp_app.specs.Outcome.{Task, to_check, to_replay}
 use Rattle.dp_app.proofs.Blocks.{cycled_is}
 use Rattle.dp_app.proofs.PlayedFrames.{begun_played, frames_played}
 use Rattle.dp_app.proofs.Lists.{take_next}
@@ -32,7 +32,7 @@ use Rattle.dp_app.proofs.Plays.{played_next}
 use Rattle.dp_app.proofs.Votes.{given_voted}
 
 -- the cycle that a block tells
-pub record Found (p : Plant) (script : List TimedAct) (fs : List Frame) (es : List Event) (n : ℕ) (b : BlockValue) : Type 0 where
+pub record Found (p : Plant) (script : List TimedAct) (fs : List Frame) (es : List Event) (n : ℕ) (b : Block) : Type 0 where
   pub frame : Frame
   pub at : slice_get fs n ≡ Some frame
   pub is : b ≡ block_of p frame.cycle (cycled p script frame (played p script (take n fs) es))
@@ -40,7 +40,7 @@ pub record Found (p : Plant) (script : List TimedAct) (fs : List Frame) (es : Li
 some_is : {A : Type 0} (x y : A) → Some x ≡ Some y → x ≡ y
 some_is x y e = cc
 
-found : (p : Plant) (script : List TimedAct) (fs : List Frame) (es : List Event) (n : ℕ) (b : BlockValue) → slice_get (blocks p script fs es) n ≡ Some b → Found p script fs es n b
+found : (p : Plant) (script : List TimedAct) (fs : List Frame) (es : List Event) (n : ℕ) (b : Block) → slice_get (blocks p script fs es) n ≡ Some b → Found p script fs es n b
 unfolding blocks played
 found p script [] es n b e = absurd cc
 found p script (f ∷ fs) es zero b e = record { frame = f; at = refl; is = sym (some_is _ b e) }
@@ -61,7 +61,7 @@ listed n k h b (Some x) e m =
     let same : x ≡ k = omega (arith, at.0) in
     (at.1, ap (λ (j : ℕ). ballot j h) (sym same) ∙ some_is _ b m)
 
-ballot_at : (n cycle k : ℕ) (h : List Moment) (b : Ballot) → slice_get (block_at n cycle h).ballots k ≡ Some b → (k < n) × (ballot k h ≡ b)
+ballot_at : (n cycle k : ℕ) (h : List Moment) (b : Ballot) → slice_get (block_at n cycle h).ballots.items k ≡ Some b → (k < n) × (ballot k h ≡ b)
 unfolding block_at
 ballot_at n cycle k h b e =
     listed n k h b (slice_get (range_with_len 0 n) k) refl (sym (slice_get-map (λ j. ballot j h) (range_with_len 0 n) k) ∙ e)
@@ -88,7 +88,7 @@ module _ (law : FreshIsReference) (p : Plant) (script : List TimedAct) (fs : Lis
       let c = found p script fs [] n b at in
       let es = played p script (take (n + 1) fs) [] in
       let is : b ≡ block_of p c.frame.cycle es = c.is ∙ ap (λ (l : List Event). block_of p c.frame.cycle l) (cycle_is n c.frame c.at) in
-      let b_at = ballot_at (voters p) c.frame.cycle k (history p es) (Fresh f) (subst (λ (x : BlockValue). slice_get x.ballots k ≡ Some (Fresh f)) is fresh) in
+      let b_at = ballot_at (voters p) c.frame.cycle k (history p es) (Fresh f) (subst (λ (x : Block). slice_get x.ballots.items k ≡ Some (Fresh f)) is fresh) in
       let told : given_ballot k (history p es) ≡ Some (Fresh f) = given_in n k c.frame b_at.0 c.at ∙ ap Some b_at.1 in
       let began : cycles_begun (history p es) - 1 ≡ n =
       omega (arith, begun_played p script (take (n + 1) fs), length-take (n + 1) fs, within fs n c.frame c.at) in
@@ -96,6 +96,7 @@ module _ (law : FreshIsReference) (p : Plant) (script : List TimedAct) (fs : Lis
       (subst (λ (l : List Frame). force_of p (own_setpoints p) l (cycles_begun (history p es) - 1) k ≡ Some f)
       (frames_played p script (take (n + 1) fs)) (law p es one k f told))
 
-pub tells : (law : FreshIsReference) (x : Result Play Fault) → TellsReferenceForces x
-tells law (Ok x) = fresh_forces law x.plant x.script x.frames
+pub tells : (law : FreshIsReference) (x : Result Task Fault) → TellsReferenceForces x
+tells law (Ok (to_replay x)) = fresh_forces law x.plant x.script x.frames
+tells law (Ok (to_check p)) = tt
 tells law (Err fault) = tt

@@ -1,4 +1,4 @@
--- Outcomes, from what words and files play.
+-- Outcomes, from what words and files ask for.
 use Rattle.std.proofs.Common.{◌≡◌, ◌≢◌, ◌⊎◌, ◌≤◌, ℕ, List, [], ◌∷◌, ◌++◌, length, Option, Some, None, Err, Result, IfSome, inl, inr, refl, sym, ap, ◌∙◌, subst, arith}
 use Rattle.std.specs.Io.KnownBytes.{Appends}
 use Rattle.dp_plant.specs.declared.plant.Plant.{Plant}
@@ -7,17 +7,18 @@ use Rattle.dp_shell.specs.Faults.{Rose}
 use Rattle.dp_shell.specs.Texts.{Files}
 use Rattle.dp_shell.proofs.Taken.{line_cut, line_whole}
 use Rattle.dp_app.specs.declared.fault.Fault.{Fault}
-use Rattle.dp_app.specs.declared.fault.Fault.TheVariants.{Usage, Read, Long, BadScript, BadRecord, LongCycles, Memory}
+use Rattle.dp_app.specs.declared.fault.Fault.TheVariants.{Usage, Read, Long, BadPlant, GainsRefused, BadScript, BadRecord, LongCycles, Memory}
 use Rattle.dp_app.specs.declared.fault.File.{File}
 use Rattle.dp_app.specs.declared.status.Status.{Status}
 use Rattle.dp_app.specs.declared.status.Status.TheVariants as status
 use Rattle.dp_app.specs.Causes.{AnyRose, ReadFailed}
 use Rattle.dp_app.specs.FaultLines.{fault_line, fault_status}
-use Rattle.dp_app.specs.Headline.{TellsReferenceForces}
-use Rattle.dp_app.specs.Outcome.{IsOfInputs, Outcome, Play, Prefix, ended, last_line, last_status, outcome_of, play_of, play_or_fault, played_out}
+use Rattle.dp_app.specs.Files.{Prefix}
+use Rattle.dp_app.specs.Outcome.{Asks, IsOfInputs, Task, ended, last_line, last_status, play_of, played_out}
 use Rattle.dp_app.specs.Playing.{text_played}
-use Rattle.dp_app.specs.Words.{FileNamed}
-use Rattle.dp_app.specs.Written.{EndsWithFault, HasWritten, IsAnnounced, LineEnds}
+use Rattle.dp_app.specs.Words.{Command, FileNamed}
+use Rattle.dp_app.specs.Written.{HasWritten, IsAnnounced, LineEnds}
+use Rattle.dp_app.proofs.Asking.{of_asked}
 use Rattle.dp_app.proofs.Endings.{written_inputs}
 
 -- the outcome of what a record plays
@@ -32,19 +33,13 @@ pub status_is : (p : Plant) (script : List TimedAct) (f : Prefix) (fault : Optio
 unfolding played_out
 status_is p script f fault is = ap last_status is
 
--- what holds of the outcome of what is played, or of a refusal
-pub outcome_is : (files : Option Files) (words : List (List ℕ)) (r : Result Play Fault) (P : Outcome → Type 0)
-    → IfSome files (λ told. play_or_fault words told ≡ r) → P (ended r) → IfSome files (λ told. P (outcome_of words told))
-outcome_is None words r P is holds = tt
-outcome_is (Some told) words r P is holds = subst (λ (x : Result Play Fault). P (ended x)) (sym is) holds
-
-pub forces_are : (files : Option Files) (words : List (List ℕ)) → ((r : Result Play Fault) → TellsReferenceForces r) → IfSome files (λ told. TellsReferenceForces (play_or_fault words told))
-forces_are None words law = tt
-forces_are (Some told) words law = law (play_or_fault words told)
-
 any_files : (files : Option Files) (P : Files → Type 0) → ((told : Files) → P told) → IfSome files P
 any_files None P all = tt
 any_files (Some told) P all = all told
+
+pub any_asked : (files : Option Files) (c : Option Command) (P : Result Task Fault → Type 0) → ((x : Result Task Fault) → P x)
+    → IfSome files (λ told. (x : Result Task Fault) → Asks c told x → P x)
+any_asked files c P all = any_files files (λ told. (x : Result Task Fault) → Asks c told x → P x) (λ told x asks. all x)
 
 pub rose_before : (a b c : ℕ) → a ≤ b → Rose b c → Rose a c
 rose_before a b c le rose = omega arith
@@ -62,7 +57,60 @@ status_known status.ReadFault r w = absurd (r refl)
 status_known status.WriteFault r w = absurd (w refl)
 status_known status.Memory r w = inr refl
 
--- ---- a refusal before anything is played
+-- ---- faults and their status
+
+-- where a fault comes from: words and files, a read, or want of memory
+data Cause (fault : Fault) : Type 0 where
+  of_inputs : IsOfInputs (fault_status fault) → Cause fault
+  of_read : (file : File) → fault ≡ Read file → Cause fault
+  of_memory : fault ≡ Memory → Cause fault
+
+cause_of : (fault : Fault) → Cause fault
+cause_of Usage = of_inputs tt
+cause_of (Read file) = of_read file refl
+cause_of (Long file) = of_inputs tt
+cause_of (BadPlant why) = of_inputs tt
+cause_of (GainsRefused why) = of_inputs tt
+cause_of (BadScript line kind) = of_inputs tt
+cause_of (BadRecord line kind) = of_inputs tt
+cause_of (LongCycles cycle) = of_inputs tt
+cause_of Memory = of_memory refl
+
+read_status : (fault : Fault) → fault_status fault ≡ status.ReadFault → (file : File) × (fault ≡ Read file)
+read_status (Read file) e = (file, refl)
+read_status Usage e = absurd cc
+read_status (Long file) e = absurd cc
+read_status (BadPlant why) e = absurd cc
+read_status (GainsRefused why) e = absurd cc
+read_status (BadScript line kind) e = absurd cc
+read_status (BadRecord line kind) e = absurd cc
+read_status (LongCycles cycle) e = absurd cc
+read_status Memory e = absurd cc
+
+usage_status : (fault : Fault) → fault_status fault ≡ status.Usage → fault ≡ Usage
+usage_status Usage e = refl
+usage_status (Read file) e = absurd cc
+usage_status (Long file) e = absurd cc
+usage_status (BadPlant why) e = absurd cc
+usage_status (GainsRefused why) e = absurd cc
+usage_status (BadScript line kind) e = absurd cc
+usage_status (BadRecord line kind) e = absurd cc
+usage_status (LongCycles cycle) e = absurd cc
+usage_status Memory e = absurd cc
+
+-- a fault whose line stands alone is announced
+told_alone : (fault : Fault) (old new : Option (List ℕ)) → Appends old new (fault_line fault) → IsAnnounced (fault_status fault) old new
+told_alone Usage old new h = h
+told_alone (Read file) old new h = record { before = []; fault = Read file; is = refl; taken = h }
+told_alone (Long file) old new h = record { before = []; fault = Long file; is = refl; taken = h }
+told_alone (BadPlant why) old new h = record { before = []; fault = BadPlant why; is = refl; taken = h }
+told_alone (GainsRefused why) old new h = record { before = []; fault = GainsRefused why; is = refl; taken = h }
+told_alone (BadScript line kind) old new h = record { before = []; fault = BadScript line kind; is = refl; taken = h }
+told_alone (BadRecord line kind) old new h = record { before = []; fault = BadRecord line kind; is = refl; taken = h }
+told_alone (LongCycles cycle) old new h = record { before = []; fault = LongCycles cycle; is = refl; taken = h }
+told_alone Memory old new h = tt
+
+-- ---- a refusal before anything is written
 
 module _ (failed : File → Type 0) (text : List ℕ) (old new : Option (List ℕ)) (s : Status) where
   given_line : (fault : Fault) → IsOfInputs (fault_status fault) → LineEnds (fault_status fault) (fault_line fault) old new s → HasWritten failed (fault_line fault) s old new
@@ -81,71 +129,62 @@ module _ (failed : File → Type 0) (text : List ℕ) (old new : Option (List �
   memory_line (inr (inl (e, h))) = subst (λ (t : Status). HasWritten failed text t old new) (sym e) (inr (Memory, tt, line_cut old new text (fault_line Memory) h))
   memory_line (inr (inr (e, h))) = subst (λ (t : Status). HasWritten failed text t old new) (sym e) (inr (inl (Memory, tt, line_cut old new text (fault_line Memory) h)))
 
-module _ (failed : File → Type 0) (files : Option Files) (words : List (List ℕ)) (old new : Option (List ℕ)) (s : Status) where
-  given_written : (fault : Fault) → IsOfInputs (fault_status fault) → IfSome files (λ told. play_or_fault words told ≡ Err fault)
-      → LineEnds (fault_status fault) (fault_line fault) old new s → IfSome files (λ told. HasWritten failed (outcome_of words told).text s old new)
+module _ (failed : File → Type 0) (files : Option Files) (c : Option Command) (old new : Option (List ℕ)) (s : Status) where
+  given_written : (fault : Fault) → IsOfInputs (fault_status fault) → IfSome files (λ told. Asks c told (Err fault))
+      → LineEnds (fault_status fault) (fault_line fault) old new s → IfSome files (λ told. (x : Result Task Fault) → Asks c told x → HasWritten failed (ended x).text s old new)
   given_written fault plain is ends =
-      outcome_is files words (Err fault) (λ o. HasWritten failed o.text s old new) is (given_line failed [] old new s fault plain ends)
+      of_asked files c (Err fault) (λ x. HasWritten failed (ended x).text s old new) is (given_line failed [] old new s fault plain ends)
 
-  pub refused_written : (fault : Fault) → (IsOfInputs (fault_status fault) → IfSome files (λ told. play_or_fault words told ≡ Err fault))
+  pub refused_written : (fault : Fault) → (IsOfInputs (fault_status fault) → IfSome files (λ told. Asks c told (Err fault)))
       → ((file : File) → fault ≡ Read file → failed file) → LineEnds (fault_status fault) (fault_line fault) old new s
-      → IfSome files (λ told. HasWritten failed (outcome_of words told).text s old new)
-  refused_written Usage is why ends = given_written Usage tt (is tt) ends
-  refused_written (Long file) is why ends = given_written (Long file) tt (is tt) ends
-  refused_written (BadScript line kind) is why ends = given_written (BadScript line kind) tt (is tt) ends
-  refused_written (BadRecord line kind) is why ends = given_written (BadRecord line kind) tt (is tt) ends
-  refused_written (LongCycles cycle) is why ends = given_written (LongCycles cycle) tt (is tt) ends
-  refused_written (Read file) is why ends =
-      any_files files (λ told. HasWritten failed (outcome_of words told).text s old new)
-      (λ told. read_line failed (outcome_of words told).text old new s file (why file refl) ends)
-  refused_written Memory is why ends =
-      any_files files (λ told. HasWritten failed (outcome_of words told).text s old new)
-      (λ told. memory_line failed (outcome_of words told).text old new s ends)
+      → IfSome files (λ told. (x : Result Task Fault) → Asks c told x → HasWritten failed (ended x).text s old new)
+  refused_written fault is why ends = by (cause_of fault)
+    where
+      by : Cause fault → IfSome files (λ told. (x : Result Task Fault) → Asks c told x → HasWritten failed (ended x).text s old new)
+      by (of_inputs given) = given_written fault given (is given) ends
+      by (of_read file e) =
+          any_files files (λ told. (x : Result Task Fault) → Asks c told x → HasWritten failed (ended x).text s old new)
+          (λ told x asks. read_line failed (ended x).text old new s file (why file e)
+          (subst (λ (f : Fault). LineEnds (fault_status f) (fault_line f) old new s) e ends))
+      by (of_memory e) =
+          any_files files (λ told. (x : Result Task Fault) → Asks c told x → HasWritten failed (ended x).text s old new)
+          (λ told x asks. memory_line failed (ended x).text old new s (subst (λ (f : Fault). LineEnds (fault_status f) (fault_line f) old new s) e ends))
 
-  -- the status of the refusal, unless its line was not written
-  refused_if : (fault : Fault) (P : Status → Type 0) → LineEnds (fault_status fault) (fault_line fault) old new s
-      → (Appends old new (fault_line fault) → P (fault_status fault)) → P status.WriteFault → P status.Memory → P s
-  refused_if fault P (inl (e, h)) whole write memory = subst P (sym e) (whole h)
-  refused_if fault P (inr (inl (e, h))) whole write memory = subst P (sym e) write
-  refused_if fault P (inr (inr (e, h))) whole write memory = subst P (sym e) memory
+-- ---- the status of a refusal, unless its line was not written
 
-  alone : (fault : Fault) (t : Status) → fault_status fault ≡ t → Appends old new (fault_line fault) → EndsWithFault t old new
-  alone fault t is h = record { before = []; fault = fault; is = is; taken = h }
+module _ (failed : File → Type 0) (old new : Option (List ℕ)) (s : Status) (fault : Fault) (ends : LineEnds (fault_status fault) (fault_line fault) old new s) where
+  pub refused_announced : IsAnnounced s old new
+  refused_announced = elim ends [
+    | inl (e, h) ↦ subst (λ (t : Status). IsAnnounced t old new) (sym e) (told_alone fault old new h)
+    | inr (inl (e, h)) ↦ subst (λ (t : Status). IsAnnounced t old new) (sym e) tt
+    | inr (inr (e, h)) ↦ subst (λ (t : Status). IsAnnounced t old new) (sym e) tt
+  ]
 
-  pub refused_announced : (fault : Fault) → LineEnds (fault_status fault) (fault_line fault) old new s → IsAnnounced s old new
-  refused_announced Usage ends = refused_if Usage (λ t. IsAnnounced t old new) ends (λ h. h) tt tt
-  refused_announced (Read file) ends = refused_if (Read file) (λ t. IsAnnounced t old new) ends (alone (Read file) status.ReadFault refl) tt tt
-  refused_announced (Long file) ends = refused_if (Long file) (λ t. IsAnnounced t old new) ends (alone (Long file) status.TooLong refl) tt tt
-  refused_announced (BadScript line kind) ends = refused_if (BadScript line kind) (λ t. IsAnnounced t old new) ends (alone (BadScript line kind) status.BadScript refl) tt tt
-  refused_announced (BadRecord line kind) ends = refused_if (BadRecord line kind) (λ t. IsAnnounced t old new) ends (alone (BadRecord line kind) status.BadRecord refl) tt tt
-  refused_announced (LongCycles cycle) ends = refused_if (LongCycles cycle) (λ t. IsAnnounced t old new) ends (alone (LongCycles cycle) status.TooLong refl) tt tt
-  refused_announced Memory ends = refused_if Memory (λ t. IsAnnounced t old new) ends (λ h. tt) tt tt
+  pub refused_read : ((file : File) → fault ≡ Read file → failed file) → s ≡ status.ReadFault → (file : File) × failed file × Appends old new (fault_line (Read file))
+  refused_read why is = elim ends [
+    | inl (e, h) ↦ (let read = read_status fault (sym e ∙ is) in
+        (read.0, why read.0 read.1, subst (λ (f : Fault). Appends old new (fault_line f)) read.1 h))
+    | inr (inl (e, h)) ↦ absurd (let no : status.WriteFault ≡ status.ReadFault = sym e ∙ is in cc)
+    | inr (inr (e, h)) ↦ absurd (let no : status.Memory ≡ status.ReadFault = sym e ∙ is in cc)
+  ]
 
-  pub refused_read : (fault : Fault) → ((file : File) → fault ≡ Read file → failed file) → LineEnds (fault_status fault) (fault_line fault) old new s
-      → s ≡ status.ReadFault → (file : File) × failed file × Appends old new (fault_line (Read file))
-  refused_read (Read file) why ends = refused_if (Read file) (λ t. t ≡ status.ReadFault → (file : File) × failed file × Appends old new (fault_line (Read file))) ends
-      (λ h e. (file, why file refl, h)) (λ e. absurd cc) (λ e. absurd cc)
-  refused_read Usage why ends = refused_if Usage (λ t. t ≡ status.ReadFault → (file : File) × failed file × Appends old new (fault_line (Read file))) ends (λ h e. absurd cc) (λ e. absurd cc) (λ e. absurd cc)
-  refused_read (Long f) why ends = refused_if (Long f) (λ t. t ≡ status.ReadFault → (file : File) × failed file × Appends old new (fault_line (Read file))) ends (λ h e. absurd cc) (λ e. absurd cc) (λ e. absurd cc)
-  refused_read (BadScript line kind) why ends = refused_if (BadScript line kind) (λ t. t ≡ status.ReadFault → (file : File) × failed file × Appends old new (fault_line (Read file))) ends (λ h e. absurd cc) (λ e. absurd cc) (λ e. absurd cc)
-  refused_read (BadRecord line kind) why ends = refused_if (BadRecord line kind) (λ t. t ≡ status.ReadFault → (file : File) × failed file × Appends old new (fault_line (Read file))) ends (λ h e. absurd cc) (λ e. absurd cc) (λ e. absurd cc)
-  refused_read (LongCycles cycle) why ends = refused_if (LongCycles cycle) (λ t. t ≡ status.ReadFault → (file : File) × failed file × Appends old new (fault_line (Read file))) ends (λ h e. absurd cc) (λ e. absurd cc) (λ e. absurd cc)
-  refused_read Memory why ends = refused_if Memory (λ t. t ≡ status.ReadFault → (file : File) × failed file × Appends old new (fault_line (Read file))) ends (λ h e. absurd cc) (λ e. absurd cc) (λ e. absurd cc)
+  pub refused_usage : s ≡ status.Usage → fault ≡ Usage
+  refused_usage is = elim ends [
+    | inl (e, h) ↦ usage_status fault (sym e ∙ is)
+    | inr (inl (e, h)) ↦ absurd (let no : status.WriteFault ≡ status.Usage = sym e ∙ is in cc)
+    | inr (inr (e, h)) ↦ absurd (let no : status.Memory ≡ status.Usage = sym e ∙ is in cc)
+  ]
 
-  pub refused_usage : (fault : Fault) → LineEnds (fault_status fault) (fault_line fault) old new s → s ≡ status.Usage → fault ≡ Usage
-  refused_usage Usage ends = λ e. refl
-  refused_usage (Read file) ends = refused_if (Read file) (λ t. t ≡ status.Usage → Read file ≡ Usage) ends (λ h e. absurd cc) (λ e. absurd cc) (λ e. absurd cc)
-  refused_usage (Long file) ends = refused_if (Long file) (λ t. t ≡ status.Usage → Long file ≡ Usage) ends (λ h e. absurd cc) (λ e. absurd cc) (λ e. absurd cc)
-  refused_usage (BadScript line kind) ends = refused_if (BadScript line kind) (λ t. t ≡ status.Usage → BadScript line kind ≡ Usage) ends (λ h e. absurd cc) (λ e. absurd cc) (λ e. absurd cc)
-  refused_usage (BadRecord line kind) ends = refused_if (BadRecord line kind) (λ t. t ≡ status.Usage → BadRecord line kind ≡ Usage) ends (λ h e. absurd cc) (λ e. absurd cc) (λ e. absurd cc)
-  refused_usage (LongCycles cycle) ends = refused_if (LongCycles cycle) (λ t. t ≡ status.Usage → LongCycles cycle ≡ Usage) ends (λ h e. absurd cc) (λ e. absurd cc) (λ e. absurd cc)
-  refused_usage Memory ends = refused_if Memory (λ t. t ≡ status.Usage → Memory ≡ Usage) ends (λ h e. absurd cc) (λ e. absurd cc) (λ e. absurd cc)
-
-  pub refused_no_command : (fault : Fault) → fault ≡ Usage → LineEnds (fault_status fault) (fault_line fault) old new s
-      → (s ≡ status.Usage) ⊎ (s ≡ status.WriteFault) ⊎ (s ≡ status.Memory)
-  refused_no_command fault is (inl (e, h)) = inl (e ∙ ap fault_status is)
-  refused_no_command fault is (inr (inl (e, h))) = inr (inl e)
-  refused_no_command fault is (inr (inr (e, h))) = inr (inr e)
+  pub refused_no_command : (fault ≡ Usage) ⊎ (fault ≡ Memory) → (s ≡ status.Usage) ⊎ (s ≡ status.WriteFault) ⊎ (s ≡ status.Memory)
+  refused_no_command is = elim ends [
+    | inl (e, h) ↦ by_fault e is
+    | inr (inl (e, h)) ↦ inr (inl e)
+    | inr (inr (e, h)) ↦ inr (inr e)
+  ]
+    where
+      by_fault : s ≡ fault_status fault → (fault ≡ Usage) ⊎ (fault ≡ Memory) → (s ≡ status.Usage) ⊎ (s ≡ status.WriteFault) ⊎ (s ≡ status.Memory)
+      by_fault e (inl u) = inl (e ∙ ap fault_status u)
+      by_fault e (inr m) = inr (inr (e ∙ ap fault_status m))
 
 -- a read that failed was counted
 any_rose : (files : Option Files) (before now : List ℕ → ℕ) (fs : List FileNamed) (file : File) → ReadFailed files before now fs file → AnyRose fs before now
@@ -158,5 +197,5 @@ pub refused_complete : (files : Option Files) (before now : List ℕ → ℕ) (f
     → (s ≡ status.WriteFault → rose) → (AnyRose fs before now → ⊥) → (rose → ⊥) → IsOfInputs s ⊎ (s ≡ status.Memory)
 refused_complete files before now fs old new s fault rose why ends wrote quiet still =
     status_known s
-    (λ e. let r = refused_read (ReadFailed files before now fs) files [] old new s fault why ends e in quiet (any_rose files before now fs r.0 r.1))
+    (λ e. let r = refused_read (ReadFailed files before now fs) old new s fault ends why e in quiet (any_rose files before now fs r.0 r.1))
     (λ e. still (wrote e))

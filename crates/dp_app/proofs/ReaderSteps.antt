@@ -1,5 +1,5 @@
 -- What the bytes of a record bring, one after another.
-use Rattle.std.proofs.Common.{◌≡◌, ℕ, ◌<◌, Bool, true, false, List, [], ◌∷◌, ◌++◌, Option, Some, None, is_some, nat_lt, if◌then◌else◌, refl, sym, ap, ◌∙◌, append_assoc}
+use Rattle.std.proofs.Common.{◌≡◌, ℕ, ◌<◌, Bool, true, false, List, [], ◌∷◌, ◌++◌, Option, Some, None, is_some, nat_lt, if◌then◌else◌, refl, sym, ap, ◌∙◌, append_assoc, subst}
 use Rattle.std.proofs.lemmas.List.{append-nil}
 use Rattle.dp_plant.specs.declared.frames.Frame.{Frame}
 use Rattle.dp_frame.specs.declared.entry.Entry.{Entry}
@@ -98,11 +98,16 @@ module _ (s : Settings) (some : 0 < s.cycle_ms) where
           (is ∙ ap (λ (x : Option Refusal). record_fault x false) (e ∙ sym stays.0), stays.1)
 
 -- the frame that is closed is the next one to play
-pub next_is : (groups n : ℕ) (x : Feed) → ClosesCycle n x → IsFeedInRange groups x → IsNext n x
-next_is groups n (feed.Closed frame empty) closes range = (closes, range.0.within, range.1)
+pub next_is : (groups n : ℕ) (x : Feed) → ClosesCycle n x → IsFeedInRange groups x → IsNext groups n x
+next_is groups n (feed.Closed frame empty) closes range = (closes, range.0, range.1)
 next_is groups n (feed.Fault line kind) closes range = tt
 next_is groups n (feed.TooMany line cycle) closes range = tt
 next_is groups n feed.More closes range = tt
+
+-- for a player of as many cycles, on a plant with as many groups
+pub next_to_play : (groups own n count : ℕ) (x : Feed) → groups ≡ own → n ≡ count → ClosesCycle n x → IsFeedInRange groups x → IsNext own count x
+next_to_play groups own n count x same many closes range =
+    subst (λ (g : ℕ). IsNext g count x) same (subst (λ (k : ℕ). IsNext groups k x) many (next_is groups n x closes range))
 
 pub no_lines : (s : Settings) → first_refusal s (ended_lines []) ≡ None
 unfolding first_refusal

@@ -15,7 +15,8 @@ use Rattle.dp_script.specs.declared.timed_act.TimedAct.{TimedAct}
 use Rattle.dp_app.specs.declared.fault.Fault.{Fault}
 use Rattle.dp_app.specs.declared.fault.Fault.TheVariants.{Long}
 use Rattle.dp_app.specs.declared.fault.File.TheVariants.{Record}
-use Rattle.dp_app.specs.Outcome.{Prefix, IsOfRecord, frames_played, lines_of, play_of, record_fault, refused_by}
+use Rattle.dp_app.specs.Files.{Prefix}
+use Rattle.dp_app.specs.Outcome.{IsOfRecord, frames_played, lines_of, play_of, record_fault, refused_by}
 use Rattle.dp_app.proofs.Finishing.{given_prefix, given_open}
 use Rattle.dp_app.proofs.ReaderSteps.{a_refusal}
 

@@ -12,3 +12,7 @@ on_err (Err e) P Q f h = f h
 
 pub same_err : (A : Type 0) {B : Type 0} (x y : B) → IsErrOf {T = A} (Err x) y → x ≡ y
 same_err A x y e = cc
+
+pub any_err : {A B : Type 0} (r : Result A B) (P : Type 0) → P → OnErr r P
+any_err (Ok x) P h = tt
+any_err (Err e) P h = h

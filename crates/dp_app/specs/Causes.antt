@@ -1,27 +1,29 @@
 -- Why a fault of reading may be answered: the files that a command reads are listed in the order in
 -- which it reads them.
-use Rattle.std.specs.Prelude.{◌≡◌, ◌≢◌, ◌⊎◌, ℕ, Bool, List, [], ◌∷◌, Option, Some, None, IfSome, IsSomeAnd, IsTrue}
+use Rattle.std.specs.Prelude.{◌≡◌, ◌≢◌, ◌⊎◌, ℕ, Bool, List, [], ◌∷◌, Option, None, IfSome, IsSome, IsSomeAnd, IsTrue}
 use Rattle.dp_shell.specs.Faults.{Rose}
 use Rattle.dp_shell.specs.Texts.{Files, text_named}
-use Rattle.dp_app.specs.declared.fault.Fault.{Fault}
+use Rattle.dp_plant.specs.declared.plant.Plant.{Plant as PlantValue}
 use Rattle.dp_app.specs.declared.fault.File.{File}
-use Rattle.dp_app.specs.declared.fault.File.TheVariants.{Script, Record}
-use Rattle.dp_app.specs.Outcome.{prefix_of, script_fault_of, script_limit}
+use Rattle.dp_app.specs.declared.fault.File.TheVariants.{Plant, Script, Record}
+use Rattle.dp_app.specs.Files.{prefix_of, script_limit}
+use Rattle.dp_app.specs.Outcome.{script_fault_of}
+use Rattle.dp_app.specs.PlantFiles.{IsPlantOf}
 use Rattle.dp_app.specs.Words.{FileNamed}
 
 -- the number of a name's faults rose
 abbrev pub RoseAt : (List ℕ → ℕ) → (List ℕ → ℕ) → List ℕ → Type 0
 RoseAt before now name = Rose (before name) (now name)
 
--- the fault of a file that is judged before the next one is read; a record is judged as it is
--- played
-abbrev pub fault_of_text : File → List ℕ → Option Fault
-fault_of_text Script text = script_fault_of (prefix_of script_limit text)
-fault_of_text Record text = None
+-- a file is there and has no fault that is judged before the next one is read; a record is judged
+-- as it is played
+abbrev pub Passes : File → Option (List ℕ) → Type 0
+Passes Plant text = (p : PlantValue) × IsPlantOf text p
+Passes Script text = IsSomeAnd text (λ t. script_fault_of (prefix_of script_limit t) ≡ None)
+Passes Record text = IsSome text
 
--- the file is there and has no fault
 abbrev pub HasPassed : Files → FileNamed → Type 0
-HasPassed told f = IsSomeAnd (text_named told f.name) (λ text. fault_of_text f.file text ≡ None)
+HasPassed told f = Passes f.file (text_named told f.name)
 
 -- a read of this file failed, after all files before it had passed
 abbrev pub ReadFailed : Option Files → (List ℕ → ℕ) → (List ℕ → ℕ) → List FileNamed → File → Type 0

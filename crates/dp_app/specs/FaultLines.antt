@@ -1,27 +1,107 @@
 -- The fault lines, and the status that goes with each.
-use Rattle.std.specs.Prelude.{ℕ, List, ◌++◌, codes}
-use Rattle.std.specs.Fmt.{decimal}
+use Rattle.std.specs.Prelude.{ℕ, ℤ, List, ◌++◌, codes}
+use Rattle.std.specs.Fmt.{decimal, signed_decimal}
+use Rattle.dp_alloc.specs.declared.fault.CaseFault.{CaseFault}
+use Rattle.dp_alloc.specs.declared.fault.CaseFault.TheVariants as case
+use Rattle.dp_cert.specs.declared.faults.CertFault.{CertFault}
+use Rattle.dp_cert.specs.declared.faults.CertFault.TheVariants as cert
 use Rattle.dp_frame.specs.declared.fault.LineFault.{LineFault}
 use Rattle.dp_frame.specs.declared.fault.LineFault.TheVariants.{LongLine, NoTime, BadTime, TimeBack, NoWire, UnknownWire}
 use Rattle.dp_script.specs.declared.fault.ScriptKind.{ScriptKind}
-use Rattle.dp_script.specs.declared.fault.ScriptKind.TheVariants.{Verb, Number, Range, Order}
+use Rattle.dp_script.specs.declared.fault.ScriptKind.TheVariants as kind
 use Rattle.dp_app.specs.declared.fault.Fault.{Fault}
-use Rattle.dp_app.specs.declared.fault.Fault.TheVariants.{Usage, Read, Long, BadScript, BadRecord, LongCycles, Memory}
+use Rattle.dp_app.specs.declared.fault.Fault.TheVariants.{Usage, Read, Long, BadPlant, GainsRefused, BadScript, BadRecord, LongCycles, Memory}
 use Rattle.dp_app.specs.declared.fault.File.{File}
-use Rattle.dp_app.specs.declared.fault.File.TheVariants.{Script, Record}
+use Rattle.dp_app.specs.declared.fault.File.TheVariants.{Plant, Script, Record}
+use Rattle.dp_app.specs.declared.refusals.GainsRefusal.{GainsRefusal}
+use Rattle.dp_app.specs.declared.refusals.GainsRefusal.TheVariants as gains
+use Rattle.dp_app.specs.declared.refusals.PlantRefusal.{PlantRefusal}
+use Rattle.dp_app.specs.declared.refusals.PlantRefusal.TheVariants as plant
 use Rattle.dp_app.specs.declared.status.Status.{Status}
 use Rattle.dp_app.specs.declared.status.Status.TheVariants as status
 
 -- the word that names a file
 abbrev pub file_word : File → List ℕ
+file_word Plant = codes "plant"
 file_word Script = codes "script"
 file_word Record = codes "record"
 
+-- a fault of a whole file: `fault`, what is wrong, the file's word
+abbrev pub file_line : List ℕ → File → List ℕ
+file_line what file = codes "fault " ++ (what ++ (codes " " ++ (file_word file ++ codes "\n")))
+
+-- ---- words after a space
+
+abbrev pub spaced : List ℕ → List ℕ
+spaced word = codes " " ++ word
+
+abbrev pub counted : ℕ → List ℕ
+counted n = spaced (decimal n)
+
+abbrev pub wholly : ℤ → List ℕ
+wholly z = spaced (signed_decimal z)
+
+-- ---- the plant
+
+-- a fault of a key: its kind, and the key's name
+abbrev pub key_line : List ℕ → List ℕ → List ℕ
+key_line what key = what ++ (spaced key ++ codes "\n")
+
+-- a case: its mask of lost groups, and the first of its conditions that fails
+unfoldable pub case_line : ℕ → CaseFault → List ℕ
+case_line lost (case.CornerOver thruster need limit) =
+    codes "fault plant corner" ++ (counted lost ++ (counted thruster
+    ++ (wholly need ++ (wholly limit ++ codes "\n"))))
+case_line lost (case.OffDemand axis column error) =
+    codes "fault plant demand" ++ (counted lost ++ (counted axis
+    ++ (counted column ++ (wholly error ++ codes "\n"))))
+
+unfoldable pub plant_line : PlantRefusal → List ℕ
+plant_line plant.Toml = codes "fault plant toml\n"
+plant_line (plant.Missing key) = key_line (codes "fault plant missing") key.items
+plant_line (plant.Kind key) = key_line (codes "fault plant kind") key.items
+plant_line (plant.Range key) = key_line (codes "fault plant range") key.items
+plant_line (plant.Case refusal) = case_line refusal.lost refusal.fault
+
+-- ---- its gains
+
+-- squares that don't show a matrix: which, the first row that is short, and by how much
+abbrev pub short_line : List ℕ → ℕ → ℤ → List ℕ
+short_line which row short = which ++ (counted row ++ (wholly short ++ codes "\n"))
+
+-- the matrix of two numbers, or of one
+abbrev pub of_two : List ℕ → ℕ → ℕ → List ℕ
+of_two what first second = what ++ (counted first ++ counted second)
+
+abbrev pub of_one : List ℕ → ℕ → List ℕ
+of_one what first = what ++ counted first
+
+unfoldable pub condition_line : CertFault → List ℕ
+condition_line (cert.Range key) = key_line (codes "fault gains range") key.bytes
+condition_line cert.Rate = codes "fault gains rate\n"
+condition_line (cert.FormNotShown row short) = short_line (codes "fault gains form") row short
+condition_line (cert.VertexNotShown axis vertex row short) =
+    short_line (of_two (codes "fault gains vertex") axis vertex) row short
+condition_line cert.InputShort = codes "fault gains input\n"
+condition_line cert.RoundShort = codes "fault gains round\n"
+condition_line (cert.OutputNotShown axis which row short) =
+    short_line (of_two (codes "fault gains output") axis which) row short
+condition_line (cert.SpanNotShown coordinate row short) =
+    short_line (of_one (codes "fault gains span") coordinate) row short
+condition_line (cert.TooWide coordinate) =
+    of_one (codes "fault gains wide") coordinate ++ codes "\n"
+
+unfoldable pub gains_line : GainsRefusal → List ℕ
+gains_line (gains.Range key) = key_line (codes "fault gains range") key.items
+gains_line (gains.Condition fault) = condition_line fault
+
+-- ---- lines of script and record
+
 abbrev pub kind_word : ScriptKind → List ℕ
-kind_word Verb = codes "verb"
-kind_word Number = codes "number"
-kind_word Range = codes "range"
-kind_word Order = codes "order"
+kind_word kind.Verb = codes "verb"
+kind_word kind.Number = codes "number"
+kind_word kind.Range = codes "range"
+kind_word kind.Order = codes "order"
 
 -- of a time that falls: the time before, and this one, in milliseconds
 abbrev pub line_kind_word : LineFault → List ℕ
@@ -33,20 +113,20 @@ line_kind_word (TimeBack before now) =
 line_kind_word NoWire = codes "nowire"
 line_kind_word UnknownWire = codes "unknown"
 
--- a fault of a whole file: `fault`, what is wrong, the file's word
-abbrev pub file_line : List ℕ → File → List ℕ
-file_line what file = codes "fault " ++ (what ++ (codes " " ++ (file_word file ++ codes "\n")))
-
 -- a fault that names a line: `fault`, the file's word, the line's number, what is wrong with it
 abbrev pub named_line : File → ℕ → List ℕ → List ℕ
 named_line file number kind =
     codes "fault " ++ (file_word file
     ++ (codes " " ++ (decimal number ++ (codes " " ++ (kind ++ codes "\n")))))
 
+-- ---- all of them
+
 unfoldable pub fault_line : Fault → List ℕ
 fault_line Usage = codes "fault usage\n"
 fault_line (Read file) = file_line (codes "read") file
 fault_line (Long file) = file_line (codes "long") file
+fault_line (BadPlant why) = plant_line why
+fault_line (GainsRefused why) = gains_line why
 fault_line (BadScript line kind) = named_line Script line (kind_word kind)
 fault_line (BadRecord line kind) = named_line Record line (line_kind_word kind)
 fault_line (LongCycles cycle) = codes "fault long cycles " ++ (decimal cycle ++ codes "\n")
@@ -56,6 +136,8 @@ abbrev pub fault_status : Fault → Status
 fault_status Usage = status.Usage
 fault_status (Read file) = status.ReadFault
 fault_status (Long file) = status.TooLong
+fault_status (BadPlant why) = status.BadPlant
+fault_status (GainsRefused why) = status.GainsRefused
 fault_status (BadScript line kind) = status.BadScript
 fault_status (BadRecord line kind) = status.BadRecord
 fault_status (LongCycles cycle) = status.TooLong

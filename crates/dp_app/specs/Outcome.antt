@@ -1,5 +1,5 @@
--- What a command plays, how it ends, and all that it writes.
-use Rattle.std.specs.Prelude.{◌≢◌, ℕ, Bool, true, false, nat_lt, List, [], ◌++◌, length, take, Option, Some, None, is_some, Result, Ok, Err, if◌then◌else◌, codes}
+-- What a command asks for, how it ends, and all that it writes.
+use Rattle.std.specs.Prelude.{◌≡◌, ◌≢◌, ℕ, Bool, true, false, List, [], ◌++◌, length, Option, Some, None, is_some, Result, Ok, Err, if◌then◌else◌, codes}
 use Rattle.std.specs.Fmt.{decimal}
 use Rattle.dp_shell.specs.Texts.{Files, text_named}
 use Rattle.dp_text.specs.Lines.{lines_of as text_lines}
@@ -9,7 +9,7 @@ use Rattle.dp_frame.specs.declared.settings.Settings.{Settings}
 use Rattle.dp_frame.specs.Cycles.{frames_so_far, record_frames}
 use Rattle.dp_frame.specs.Record.{all_lines, ended_lines, first_refusal}
 use Rattle.dp_frame.specs.Represents.{settings_of}
-use Rattle.dp_plant.specs.BuiltInPlant.{built_in_plant}
+use Rattle.dp_plant.specs.PlantFile.{PlantData, plant_view}
 use Rattle.dp_plant.specs.declared.frames.Frame.{Frame}
 use Rattle.dp_plant.specs.declared.plant.Plant.{Plant}
 use Rattle.dp_script.specs.declared.timed_act.TimedAct.{TimedAct}
@@ -19,13 +19,16 @@ use Rattle.dp_script.specs.TimedActs.{timed_acts_by}
 use Rattle.dp_script.specs.Faults.{fault_in}
 use Rattle.dp_app.specs.declared.fault.Fault.{Fault}
 use Rattle.dp_app.specs.declared.fault.Fault.TheVariants.{Usage, Read, Long, BadScript, BadRecord, LongCycles}
-use Rattle.dp_app.specs.declared.fault.File.{File}
 use Rattle.dp_app.specs.declared.fault.File.TheVariants.{Script, Record}
 use Rattle.dp_app.specs.declared.status.Status.{Status}
 use Rattle.dp_app.specs.declared.status.Status.TheVariants as status
 use Rattle.dp_app.specs.Blocks.{blocks, text_of}
+use Rattle.dp_app.specs.Check.{check_text}
+use Rattle.dp_app.specs.Endings.{end_line}
 use Rattle.dp_app.specs.FaultLines.{fault_line, fault_status}
-use Rattle.dp_app.specs.Words.{Names, names_in}
+use Rattle.dp_app.specs.Files.{Prefix, prefix_of, record_limit, script_limit}
+use Rattle.dp_app.specs.PlantFiles.{data_in, plant_fault}
+use Rattle.dp_app.specs.Words.{Command, check, replay}
 
 -- ---- how it ends
 
@@ -40,10 +43,6 @@ pub record Play : Type 0 where
   pub script : List TimedAct
   pub frames : List Frame
   pub fault : Option Fault
-
--- the last line after so many cycles
-unfoldable pub end_line : ℕ → List ℕ
-end_line count = codes "end " ++ (decimal count ++ codes "\n")
 
 -- the last line: the fault's, or the number of cycles
 abbrev pub last_line : ℕ → Option Fault → List ℕ
@@ -61,23 +60,21 @@ played_out x = record {
   text = text_of (blocks x.plant x.script x.frames []) ++ last_line (length x.frames) x.fault;
 }
 
--- a refusal before anything is played
+-- what a command asks for, once its files are read
+pub data Task : Type 0 where
+  to_replay : Play → Task
+  to_check : Plant → Task
+
+-- a refusal before anything is written
 abbrev pub refused : Fault → Outcome
 refused fault = record { status = fault_status fault; text = fault_line fault }
 
-abbrev pub ended : Result Play Fault → Outcome
-ended (Ok x) = played_out x
+abbrev pub ended : Result Task Fault → Outcome
+ended (Ok (to_replay x)) = played_out x
+ended (Ok (to_check p)) = record { status = status.Ok; text = check_text p }
 ended (Err fault) = refused fault
 
 -- ---- the record
-
--- as much of a file as its limit lets be read, and whether there is more
-pub record Prefix : Type 0 where
-  pub text : List ℕ
-  pub goes_on : Bool
-
-abbrev pub prefix_of : ℕ → List ℕ → Prefix
-prefix_of limit text = record { text = take limit text; goes_on = nat_lt limit (length text) }
 
 -- its lines, newest first; where it goes on, what stands after its last line feed isn't a line yet
 abbrev pub lines_of : Prefix → List (List ℕ)
@@ -113,14 +110,11 @@ play_of p script f =
       fault = fault;
     }
 
--- the most bytes of a record, 2^36
-abbrev pub record_limit : ℕ
-record_limit = 68719476736
-
 -- by the record's text, or without one
-abbrev pub with_record : List TimedAct → Option (List ℕ) → Result Play Fault
-with_record script (Some text) = Ok (play_of built_in_plant script (prefix_of record_limit text))
-with_record script None = Err (Read Record)
+abbrev pub with_record : Plant → List TimedAct → Option (List ℕ) → Result Task Fault
+with_record p script (Some text) =
+    Ok (to_replay (play_of p script (prefix_of record_limit text)))
+with_record p script None = Err (Read Record)
 
 -- ---- the script
 
@@ -137,44 +131,40 @@ script_fault_of f = if f.goes_on then Some (Long Script) else line_fault (fault_
 abbrev pub script_of : Prefix → List TimedAct
 script_of f = timed_acts_by (text_lines false f.text)
 
--- the most bytes of a script, 2^24
-abbrev pub script_limit : ℕ
-script_limit = 16777216
-
-abbrev pub refused_or : Option Fault → Result Play Fault → Result Play Fault
+abbrev pub refused_or : Option Fault → Result Task Fault → Result Task Fault
 refused_or (Some fault) later = Err fault
 refused_or None later = later
 
 -- by the script's text, or without one; the script comes before the record
-abbrev pub with_script : Option (List ℕ) → Option (List ℕ) → Result Play Fault
-with_script (Some text) record_text =
+abbrev pub with_script : Plant → Option (List ℕ) → Option (List ℕ) → Result Task Fault
+with_script p (Some text) record_text =
     refused_or (script_fault_of (prefix_of script_limit text))
-    (with_record (script_of (prefix_of script_limit text)) record_text)
-with_script None record_text = Err (Read Script)
+    (with_record p (script_of (prefix_of script_limit text)) record_text)
+with_script p None record_text = Err (Read Script)
 
 -- ---- all of it
 
--- the most bytes of a file
-abbrev pub limit_of : File → ℕ
-limit_of Script = script_limit
-limit_of Record = record_limit
+-- the name of a command's plant, and what it asks for on a plant
+abbrev pub plant_name : Command → List ℕ
+plant_name (replay plant record_name script) = plant
+plant_name (check plant) = plant
 
--- what the files of these names play, or the fault that they are refused with
-abbrev pub play_with : Files → Names → Result Play Fault
-play_with files names = with_script (text_named files names.script_name)
-    (text_named files names.record_name)
+abbrev pub task_on : Command → Files → Plant → Result Task Fault
+task_on (replay plant record_name script) files p =
+    with_script p (text_named files script) (text_named files record_name)
+task_on (check plant) files p = Ok (to_check p)
 
-abbrev pub with_names : Files → Option Names → Result Play Fault
-with_names files (Some names) = play_with files names
-with_names files None = Err Usage
+-- what is asked for by a plant file's data: that on a plant with these data, unless it is refused
+abbrev pub AsksByData : (Plant → Result Task Fault) → Result PlantData Fault → Result Task Fault
+    → Type 0
+AsksByData task (Ok found) x =
+    (p : Plant) × (plant_view p ≡ found) × (x ≡ refused_or (plant_fault p) (task p))
+AsksByData task (Err fault) x = x ≡ Err fault
 
--- what words and files play, or the fault that they are refused with
-abbrev pub play_or_fault : List (List ℕ) → Files → Result Play Fault
-play_or_fault words files = with_names files (names_in words)
-
--- the outcome of words and files
-abbrev pub outcome_of : List (List ℕ) → Files → Outcome
-outcome_of words files = ended (play_or_fault words files)
+-- what words and files ask for, or the fault that they are refused with
+abbrev pub Asks : Option Command → Files → Result Task Fault → Type 0
+Asks (Some c) files x = AsksByData (task_on c files) (data_in (text_named files (plant_name c))) x
+Asks None files x = x ≡ Err Usage
 
 -- a status that the words and files give, whatever faults came
 abbrev pub IsOfInputs : Status → Type 0

@@ -3,7 +3,7 @@ use Rattle.std.specs.Prelude.{◌≡◌, ◌⊎◌, ℕ, List, ◌++◌, Option}
 use Rattle.std.specs.Io.KnownBytes.{Appends}
 use Rattle.dp_shell.specs.Taken.{AppendsCut, CutInLine, EndsWithLine}
 use Rattle.dp_app.specs.declared.fault.Fault.{Fault}
-use Rattle.dp_app.specs.declared.fault.Fault.TheVariants.{Usage, Read, Long, BadScript, BadRecord, LongCycles, Memory}
+use Rattle.dp_app.specs.declared.fault.Fault.TheVariants.{Usage, Read, Long, BadPlant, GainsRefused, BadScript, BadRecord, LongCycles, Memory}
 use Rattle.dp_app.specs.declared.fault.File.{File}
 use Rattle.dp_app.specs.declared.status.Status.{Status}
 use Rattle.dp_app.specs.declared.status.Status.TheVariants as status
@@ -16,6 +16,8 @@ MayBeTold failed (Read file) = failed file
 MayBeTold failed Memory = Unit {0}
 MayBeTold failed Usage = ⊥
 MayBeTold failed (Long file) = ⊥
+MayBeTold failed (BadPlant why) = ⊥
+MayBeTold failed (GainsRefused why) = ⊥
 MayBeTold failed (BadScript line kind) = ⊥
 MayBeTold failed (BadRecord line kind) = ⊥
 MayBeTold failed (LongCycles cycle) = ⊥

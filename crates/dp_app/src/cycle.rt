@@ -5,7 +5,7 @@ ghost use Rattle.dp_core.specs.declared.event.Event.{Event};
 ghost use Rattle.dp_core.specs.{history, taken_forces};
 ghost use Rattle.dp_core.specs.Represents.{Represents};
 ghost use Rattle.dp_core.specs.Voting.{ballot};
-ghost use Rattle.dp_plant.specs.{IsFrameWithin};
+ghost use Rattle.dp_plant.specs.{IsFrameInRange};
 ghost use Rattle.dp_report.specs.{block_text};
 ghost use Rattle.dp_app.specs.{block_of, cycled, voted, voters};
 
@@ -13,7 +13,7 @@ use crate::acting::{perform_all, voters_of};
 use arrayvec::ArrayVec;
 use dp_core::World;
 use dp_plant::{Ballot, Frame, Plant};
-use dp_report::{Block, write_block};
+use dp_report::{Block, agree, write_block};
 use dp_script::Script;
 
 /// A cycle: its frame is heard by all computers, the script's acts of it are done, each voter votes, and `into` holds its text.
@@ -25,7 +25,7 @@ pub fn cycle(
     into: &mut ArrayVec<u8, 4096>,
 )
     requires next { frame.now.cycle ≡ world.old.cycles_begun }
-    requires within { IsFrameWithin frame.now }
+    requires within { IsFrameInRange plant.now.groups frame.now }
     requires plant { world.old.plant ≡ plant.now }
     ensures represents { (es : List Event) → Represents es world.old
         → Represents (cycled plant.now script.now frame.now es) world.new }
@@ -42,6 +42,7 @@ pub fn cycle(
         modes: world.modes(),
         ballots,
         held: held_all(world, plant),
+        alarms: agree(&world.alarms()),
     };
     write_block(&block, into);
 }

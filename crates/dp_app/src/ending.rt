@@ -10,7 +10,7 @@ use arrayvec::ArrayVec;
 use dp_shell::{Sink, Trouble, write_all};
 use dp_text::{append, append_decimal};
 
-/// Writes the last line of a replay, the number of cycles or the record's fault, and answers the status.
+/// Writes the last line, the number of cycles or cases or the record's fault, and answers the status.
 pub fn finish<K: Sink>(out: &mut K, fault: Option<Fault>, count: u64) -> Status
     requires { IsOfRecord fault }
     ensures status { IsOfInputs result → result ≡ last_status fault }
@@ -29,7 +29,7 @@ pub fn finish<K: Sink>(out: &mut K, fault: Option<Fault>, count: u64) -> Status
     }
 }
 
-/// Writes the number of cycles.
+/// Writes the number of cycles or cases.
 fn write_end<K: Sink>(out: &mut K, count: u64) -> Status
     ensures answers { (result ≡ Status.Ok) ⊎ (result ≡ Status.WriteFault)
         ⊎ (result ≡ Status.Memory) }
@@ -74,7 +74,7 @@ pub fn announce<K: Sink>(out: &mut K, fault: Fault) -> Status
     }
 }
 
-#[tactic(auto, unfolding(crate::specs::Outcome::end_line))]
+#[tactic(auto, unfolding(crate::specs::Endings::end_line))]
 fn end_line(count: u64) -> ArrayVec<u8, LINE>
     ensures { result.items ≡ end_line count }
 {

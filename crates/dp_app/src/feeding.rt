@@ -21,6 +21,7 @@ pub fn play_text<K: Sink>(
     requires cycle { 0 < lines.old.progress.settings.cycle_ms }
     requires playing { IsPlaying player.old }
     requires next { lines.old.progress.kept.cycle ≡ player.old.count }
+    requires groups { lines.old.progress.settings.groups ≡ player.old.plant.groups }
     requires open { IsOpen lines.old }
     requires few { lines.old.bytes + length text.now ≤ 2 ^ 40 }
     ensures fault { (before : List ℕ) → Represents lines.old before
@@ -48,6 +49,7 @@ pub fn play_text<K: Sink>(
     ensures open { IsOpen lines.new }
     ensures settings { lines.new.progress.settings ≡ lines.old.progress.settings }
     ensures playing { IsPlaying player.new }
+    ensures plant { player.new.plant ≡ player.old.plant }
 {
     for byte in text {
         let fault = play_byte(player, out, lines, *byte)?;
@@ -69,6 +71,7 @@ fn play_byte<K: Sink>(
 ) -> Result<Option<Fault>, Trouble>
     requires playing { IsPlaying player.old }
     requires next { lines.old.progress.kept.cycle ≡ player.old.count }
+    requires groups { lines.old.progress.settings.groups ≡ player.old.plant.groups }
     requires open { IsOpen lines.old }
     requires few { lines.old.bytes < 2 ^ 40 }
     ensures fault { (text : List ℕ) → Represents lines.old text
@@ -88,6 +91,7 @@ fn play_byte<K: Sink>(
     ensures open_still { IsOpen lines.new }
     ensures settings { lines.new.progress.settings ≡ lines.old.progress.settings }
     ensures playing { IsPlaying player.new }
+    ensures plant { player.new.plant ≡ player.old.plant }
 {
     match lines.feed(byte) {
         Feed::More => Ok(None),
@@ -104,6 +108,7 @@ pub fn play_end<K: Sink>(
     requires cycle { 0 < lines.old.progress.settings.cycle_ms }
     requires playing { IsPlaying player.old }
     requires next { lines.old.progress.kept.cycle ≡ player.old.count }
+    requires groups { lines.old.progress.settings.groups ≡ player.old.plant.groups }
     requires open { IsOpen lines.old }
     ensures fault { (text : List ℕ) → Represents lines.old text → IfOk result (λ fault. fault
         ≡ record_fault (first_refusal (lines.old.progress.settings) (all_lines text)) false) }

@@ -1,29 +1,32 @@
-//! What a replay reads before its first cycle: the script, and the record whole.
-ghost use Rattle.std.specs.Prelude.{◌≡◌, ◌≢◌, ◌⊎◌, ◌≤◌, [], Some, IfErr, IfOk, IfSome, IsErrOf, IsNone, IsSomeAnd, None, Ok, Err, length};
-ghost use Rattle.dp_shell.specs.{NoneFalls, OthersStay, texts_of, text_named};
+//! What a command is given: its plant, and for a replay its script and its record.
+ghost use Rattle.std.specs.Prelude.{◌≡◌, ◌≢◌, ◌⊎◌, ◌≤◌, [], ◌∷◌, Some, IfErr, IfOk, IfSome, IsErrAnd, IsErrOf, IsNone, None, Ok, Err};
+ghost use Rattle.dp_shell.specs.{texts_of, text_named};
 ghost use Rattle.dp_core.specs.Represents.{Represents};
-ghost use Rattle.dp_plant.specs.{IsSoundPlant, built_in_plant};
+ghost use Rattle.dp_machine.specs.{IsAcceptedPlant};
 ghost use Rattle.dp_app.specs.declared.fault.File.{File as FileKind};
-ghost use Rattle.dp_app.specs.{HasPlayed, IsOfInputs, OthersKeep, ReadFailed, RoseAt, fault_status};
-ghost use Rattle.dp_app.specs.{files_of, files_read, limit_of, names_in, play_of, play_or_fault, play_with};
-ghost use Rattle.dp_app.specs.{prefix_of, prefix_read, script_fault_of, script_of, shown_names};
+ghost use Rattle.dp_app.specs.{Asks, HasPlayed, IsOfInputs, IsReady, IsReadyToPlay, OthersKeep, ReadFailed, fault_status};
+ghost use Rattle.dp_app.specs.{check, command_in, files_of, files_read, play_given, replay, replay_files, task_given, to_replay, with_script};
+ghost use Rattle.dp_app.specs.{prefix_read, script_fault_of, script_of, shown_command};
 
+use crate::command_line::WordsFault;
 use crate::fault::{Fault, File};
+use crate::files::read_part;
+use crate::plant_file::{AcceptedPlant, read_plant};
 use crate::player::Player;
-use crate::words::{Names, names_in};
+use crate::words::{Command, command_in};
 use arrayvec::ArrayVec;
 use dp_core::World;
-use dp_machine::laws::built_in_plant_is_sound;
-use dp_plant::{Plant, p0};
+use dp_plant::Plant;
 use dp_script::{Script, ScriptFault};
-use dp_shell::{FilePart, ReadTrouble, Shelf, read_whole};
+use dp_shell::{FilePart, Shelf};
 use std::alloc::Global;
 
-/// The most bytes of a script.
-const SCRIPT_LIMIT: usize = 1 << 24;
-
-/// The most bytes of a record.
-const RECORD_LIMIT: usize = 1 << 36;
+/// What a command asks for, once its files are read.
+#[derive(Drop)]
+pub enum Task {
+    Replay(Inputs),
+    Check(AcceptedPlant),
+}
 
 /// All that a replay is given.
 #[derive(Drop)]
@@ -33,100 +36,152 @@ pub struct Inputs {
 }
 
 /// Reads all that the words name, or says why it is refused.
-pub fn gather<F: Shelf>(alloc: Global, words: &[&str], shelf: &mut F) -> Result<Inputs, Fault>
-    ensures ok { IfOk result (λ i. IfSome (F.files shelf.old)
-        (λ files. play_or_fault (texts_of words.now) files
-        ≡ Ok (play_of i.player.plant i.player.script (prefix_read i.record)))) }
-    ensures sound { IfOk result (λ i. IsSoundPlant i.player.plant) }
-    ensures played { IfOk result (λ i. HasPlayed i.player.plant i.player.script i.player []) }
-    ensures size { IfOk result (λ i. length i.record.text.items ≤ limit_of File.Record) }
+pub fn gather<F: Shelf>(alloc: Global, words: &[&str], shelf: &mut F) -> Result<Task, Fault>
+    ensures ok { IfOk result (λ t. IfSome (F.files shelf.old) (λ files.
+        Asks (command_in (texts_of words.now)) files (Ok (task_given t)))) }
+    ensures ready { IfOk result IsReady }
 
     // A refusal that words and files give is theirs.
     ensures err { IfErr result (λ fault. IsOfInputs (fault_status fault)
-        → IfSome (F.files shelf.old) (λ files. play_or_fault (texts_of words.now) files
-        ≡ Err fault)) }
-    ensures usage { IsErrOf result Fault.Usage → IsNone (names_in (texts_of words.now)) }
-    ensures no_command { IsNone (names_in (texts_of words.now)) → IsErrOf result Fault.Usage }
+        → IfSome (F.files shelf.old) (λ files.
+        Asks (command_in (texts_of words.now)) files (Err fault))) }
+    ensures usage { IsErrOf result Fault.Usage → IsNone (command_in (texts_of words.now)) }
+    ensures no_command { IsNone (command_in (texts_of words.now))
+        → IsErrAnd result (λ fault. (fault ≡ Fault.Usage) ⊎ (fault ≡ Fault.Memory)) }
 
     // A fault of reading comes only where it was counted under the file's name, after all before it had passed.
     ensures read { (file : FileKind) → IsErrOf result (Fault.Read file)
         → ReadFailed (F.files shelf.old)
         (F.faults shelf.old) (F.faults shelf.new)
-        (files_read (names_in (texts_of words.now))) file }
+        (files_read (command_in (texts_of words.now))) file }
 
     ensures files { F.files shelf.new ≡ F.files shelf.old }
-    ensures others { OthersKeep (F.apart shelf.old) (files_read (names_in (texts_of words.now)))
+    ensures others { OthersKeep (F.apart shelf.old) (files_read (command_in (texts_of words.now)))
         (F.faults shelf.old) (F.faults shelf.new) }
 {
-    match names_in(words) {
-        Some(names) => gather_named(alloc, shelf, &names),
-        None => Err(Fault::Usage),
+    match command_in(alloc, words) {
+        Ok(command) => gather_files(alloc, shelf, &command),
+        Err(WordsFault::Usage) => Err(Fault::Usage),
+        Err(WordsFault::Memory) => Err(Fault::Memory),
     }
 }
 
-/// Reads the files of a replay, the script before the record.
-fn gather_named<F: Shelf>(alloc: Global, shelf: &mut F, names: &Names) -> Result<Inputs, Fault>
-    ensures ok { IfOk result (λ i. IfSome (F.files shelf.old)
-        (λ files. play_with files (shown_names names.now)
-        ≡ Ok (play_of i.player.plant i.player.script (prefix_read i.record)))) }
-    ensures sound { IfOk result (λ i. IsSoundPlant i.player.plant) }
-    ensures played { IfOk result (λ i. HasPlayed i.player.plant i.player.script i.player []) }
-    ensures size { IfOk result (λ i. length i.record.text.items ≤ limit_of File.Record) }
+/// Reads the files of a command, the plant first.
+fn gather_files<F: Shelf>(alloc: Global, shelf: &mut F, command: &Command) -> Result<Task, Fault>
+    ensures ok { IfOk result (λ t. IfSome (F.files shelf.old) (λ files.
+        Asks (Some (shown_command command.now)) files (Ok (task_given t)))) }
+    ensures ready { IfOk result IsReady }
     ensures err { IfErr result (λ fault. IsOfInputs (fault_status fault)
-        → IfSome (F.files shelf.old) (λ files. play_with files (shown_names names.now)
-        ≡ Err fault)) }
+        → IfSome (F.files shelf.old) (λ files.
+        Asks (Some (shown_command command.now)) files (Err fault))) }
     ensures command { IfErr result (λ fault. fault ≢ Fault.Usage) }
     ensures read { (file : FileKind) → IsErrOf result (Fault.Read file)
         → ReadFailed (F.files shelf.old)
-        (F.faults shelf.old) (F.faults shelf.new) (files_of (shown_names names.now)) file }
+        (F.faults shelf.old) (F.faults shelf.new) (files_of (shown_command command.now)) file }
     ensures files { F.files shelf.new ≡ F.files shelf.old }
-    ensures others { OthersKeep (F.apart shelf.old) (files_of (shown_names names.now))
+    ensures others { OthersKeep (F.apart shelf.old) (files_of (shown_command command.now))
         (F.faults shelf.old) (F.faults shelf.new) }
 {
-    let text = read_part(alloc, shelf, File::Script, names.script)?;
-    let script = judge_script(alloc, &text)?;
-    let world = built_in_world(alloc)?;
-    let player = player_of(built_in(), script, world);
-    match read_part(alloc, shelf, File::Record, names.record) {
-        Ok(record) => Ok(Inputs { player, record }),
+    match *command {
+        Command::Check { plant } => gather_check(alloc, shelf, plant),
+        Command::Replay {
+            plant,
+            record,
+            script,
+        } => gather_replay(alloc, shelf, plant, record, script),
+    }
+}
+
+/// Reads the plant of a check.
+fn gather_check<F: Shelf>(alloc: Global, shelf: &mut F, plant_name: &str) -> Result<Task, Fault>
+    ensures ok { IfOk result (λ t. IfSome (F.files shelf.old) (λ files.
+        Asks (Some (check plant_name.now)) files (Ok (task_given t)))) }
+    ensures ready { IfOk result IsReady }
+    ensures err { IfErr result (λ fault. IsOfInputs (fault_status fault)
+        → IfSome (F.files shelf.old) (λ files.
+        Asks (Some (check plant_name.now)) files (Err fault))) }
+    ensures command { IfErr result (λ fault. fault ≢ Fault.Usage) }
+    ensures read { (file : FileKind) → IsErrOf result (Fault.Read file)
+        → ReadFailed (F.files shelf.old)
+        (F.faults shelf.old) (F.faults shelf.new) (files_of (check plant_name.now)) file }
+    ensures files { F.files shelf.new ≡ F.files shelf.old }
+    ensures others { OthersKeep (F.apart shelf.old) (files_of (check plant_name.now))
+        (F.faults shelf.old) (F.faults shelf.new) }
+{
+    match read_plant(alloc, shelf, plant_name) {
+        Ok(plant) => Ok(Task::Check(plant)),
         Err(fault) => Err(fault),
     }
 }
 
-/// Reads a file up to its limit.
-fn read_part<F: Shelf>(
+/// Reads the plant of a replay, then its script and its record.
+fn gather_replay<F: Shelf>(
     alloc: Global,
     shelf: &mut F,
-    file: File,
-    name: &str,
-) -> Result<FilePart, Fault>
-    ensures ok { IfOk result (λ part. IfSome (F.files shelf.old) (λ files.
-        IsSomeAnd (text_named files name.now)
-        (λ text. prefix_read part ≡ prefix_of (limit_of file) text))) }
-    ensures size { IfOk result (λ part. length part.text.items ≤ limit_of file) }
-    ensures err { IfErr result (λ fault. (fault ≡ Fault.Read file) ⊎ (fault ≡ Fault.Memory)) }
-    ensures failed { IsErrOf result (Fault.Read file)
-        → RoseAt (F.faults shelf.old) (F.faults shelf.new) name.now }
+    plant_name: &str,
+    record_name: &str,
+    script_name: &str,
+) -> Result<Task, Fault>
+    ensures ok { IfOk result (λ t. IfSome (F.files shelf.old) (λ files.
+        Asks (Some (replay plant_name.now record_name.now script_name.now)) files
+        (Ok (task_given t)))) }
+    ensures ready { IfOk result IsReady }
+    ensures err { IfErr result (λ fault. IsOfInputs (fault_status fault)
+        → IfSome (F.files shelf.old) (λ files.
+        Asks (Some (replay plant_name.now record_name.now script_name.now)) files (Err fault))) }
+    ensures command { IfErr result (λ fault. fault ≢ Fault.Usage) }
+    ensures read { (file : FileKind) → IsErrOf result (Fault.Read file)
+        → ReadFailed (F.files shelf.old)
+        (F.faults shelf.old) (F.faults shelf.new)
+        (files_of (replay plant_name.now record_name.now script_name.now)) file }
     ensures files { F.files shelf.new ≡ F.files shelf.old }
-    ensures apart { F.apart shelf.new ≡ F.apart shelf.old }
-    ensures others { OthersStay (F.apart shelf.old) name.now (F.faults shelf.old)
-        (F.faults shelf.new) }
-    ensures none_falls { NoneFalls (F.faults shelf.old) (F.faults shelf.new) }
+    ensures others { OthersKeep (F.apart shelf.old)
+        (files_of (replay plant_name.now record_name.now script_name.now))
+        (F.faults shelf.old) (F.faults shelf.new) }
 {
-    match read_whole(alloc, shelf, name, limit_of(file)) {
-        Ok(part) => Ok(part),
-        Err(ReadTrouble::Failed) => Err(Fault::Read { file }),
-        Err(ReadTrouble::Memory) => Err(Fault::Memory),
+    match read_plant(alloc, shelf, plant_name) {
+        Ok(plant) => match gather_on(alloc, shelf, plant, record_name, script_name) {
+            Ok(inputs) => Ok(Task::Replay(inputs)),
+            Err(fault) => Err(fault),
+        },
+        Err(fault) => Err(fault),
     }
 }
 
-/// The most bytes of a file.
-fn limit_of(file: File) -> usize
-    ensures { result ≡ limit_of file }
+/// Reads the script and the record of a replay on a plant, in this order.
+fn gather_on<F: Shelf>(
+    alloc: Global,
+    shelf: &mut F,
+    plant: AcceptedPlant,
+    record_name: &str,
+    script_name: &str,
+) -> Result<Inputs, Fault>
+    requires { IsAcceptedPlant plant.plant plant.accepted }
+    ensures ok { IfOk result (λ i. IfSome (F.files shelf.old) (λ files.
+        with_script plant.plant (text_named files script_name.now)
+        (text_named files record_name.now)
+        ≡ Ok (to_replay (play_given i)))) }
+    ensures ready { IfOk result IsReadyToPlay }
+    ensures err { IfErr result (λ fault. IsOfInputs (fault_status fault)
+        → IfSome (F.files shelf.old) (λ files.
+        with_script plant.plant (text_named files script_name.now)
+        (text_named files record_name.now)
+        ≡ Err fault)) }
+    ensures command { IfErr result (λ fault. fault ≢ Fault.Usage) }
+    ensures read { (file : FileKind) → IsErrOf result (Fault.Read file)
+        → ReadFailed (F.files shelf.old)
+        (F.faults shelf.old) (F.faults shelf.new) (replay_files record_name.now script_name.now) file }
+    ensures files { F.files shelf.new ≡ F.files shelf.old }
+    ensures others { OthersKeep (F.apart shelf.old) (replay_files record_name.now script_name.now)
+        (F.faults shelf.old) (F.faults shelf.new) }
 {
-    match file {
-        File::Script => SCRIPT_LIMIT,
-        File::Record => RECORD_LIMIT,
+    let text = read_part(alloc, shelf, File::Script, script_name)?;
+    let script = judge_script(alloc, &text)?;
+    let world = world_of(alloc, &plant)?;
+    let player = player_of(plant.plant, script, world);
+    match read_part(alloc, shelf, File::Record, record_name) {
+        Ok(record) => Ok(Inputs { player, record }),
+        Err(fault) => Err(fault),
     }
 }
 
@@ -151,14 +206,14 @@ fn judge_script(alloc: Global, part: &FilePart) -> Result<Script, Fault>
     }
 }
 
-/// The world of the built-in plant, three live computers and its voters, before the first cycle.
-fn built_in_world(alloc: Global) -> Result<World, Fault>
-    ensures plant { IfOk result (λ world. world.plant ≡ built_in_plant) }
+/// The world of a plant, three live computers and its voters, before the first cycle.
+fn world_of(alloc: Global, plant: &AcceptedPlant) -> Result<World, Fault>
+    requires { IsAcceptedPlant plant.now.plant plant.now.accepted }
+    ensures plant { IfOk result (λ world. world.plant ≡ plant.now.plant) }
     ensures represents { IfOk result (λ world. Represents [] world) }
     ensures other { IfErr result (λ fault. fault ≡ Fault.Memory) }
 {
-    built_in_plant_is_sound();
-    World::new(alloc, &p0()).map_err(|_| Fault::Memory)
+    World::new(alloc, &plant.plant, &plant.accepted).map_err(|_| Fault::Memory)
 }
 
 /// A player that hasn't played yet.
@@ -175,13 +230,4 @@ fn player_of(plant: Plant, script: Script, world: World) -> Player
         count: 0,
         block: ArrayVec::new(),
     }
-}
-
-/// The built-in plant.
-fn built_in() -> Plant
-    ensures value { result ≡ built_in_plant }
-    ensures sound { IsSoundPlant result }
-{
-    built_in_plant_is_sound();
-    p0()
 }

@@ -1,13 +1,30 @@
-//! What holds of every replay.
-ghost use Rattle.std.specs.Prelude.{Result};
+//! What holds of every run.
+ghost use Rattle.std.specs.Prelude.{◌≡◌, ◌≤◌, List, Option, Result, ℕ, length};
+ghost use Rattle.clap.specs.Lexer.{usize_max};
+ghost use Rattle.dp_shell.specs.{Files};
 ghost use Rattle.dp_app.specs.declared.fault.Fault.{Fault};
-ghost use Rattle.dp_app.specs.{Play, TellsReferenceForces};
+ghost use Rattle.dp_app.specs.CommandLine.{ArePlainWords};
+ghost use Rattle.dp_app.specs.{Asks, Command, Task, TellsReferenceForces, command_by, command_in};
 
 use dp_core::laws::fresh_is_reference;
 
 /// Where at most one computer was faulty in any cycle so far, each fresh force that is told of a cycle is the reference run's.
 pub fn fresh_forces_are_reference()
-    ensures { (x : Result Play Fault) → TellsReferenceForces x }
+    ensures { (x : Result Task Fault) → TellsReferenceForces x }
 {
     fresh_is_reference();
 }
+
+/// Words and files always ask for something, and for one thing alone.
+pub fn one_task_is_asked()
+    ensures some { (c : Option Command) (files : Files)
+        → (x : Result Task Fault) × Asks c files x }
+    ensures one { (c : Option Command) (files : Files) (x y : Result Task Fault)
+        → Asks c files x → Asks c files y → x ≡ y }
+{}
+
+/// Words of which none begins with a hyphen are taken as they stand.
+pub fn plain_words_are_taken()
+    ensures { (words : List (List ℕ)) → ArePlainWords words → length words ≤ usize_max
+        → command_in words ≡ command_by words }
+{}

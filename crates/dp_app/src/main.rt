@@ -1,5 +1,5 @@
-//! `dp replay RECORD SCRIPT` replays a record of sensor lines on three computers, with the faults that a script says, and prints
-//! the voted forces of each cycle.
+//! `dp replay PLANT RECORD SCRIPT` replays a record of sensor lines on a plant's three computers, with the faults that a script says, and
+//! prints the voted forces of each cycle. `dp check PLANT` prints how far a bad position reference can move each thruster.
 //!
 //! All of it is [`run`], which is proved over whatever holds the files and takes the text; `main` makes the real ones and calls it.
 #![tactic(auto)]
@@ -9,14 +9,21 @@ ghost use Rattle.std.specs.Process.{exit_status};
 ghost use Rattle.dp_app.specs.{code_of};
 
 mod acting;
+mod check;
+mod command_line;
 mod cycle;
 mod ending;
 mod fault;
 mod feeding;
+mod files;
 mod inputs;
 mod laws;
+mod lines;
+mod plant_file;
+mod plant_lines;
 mod player;
 mod program;
+mod refusals;
 mod replay;
 mod status;
 #[cfg(test)]

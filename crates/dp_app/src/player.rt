@@ -2,7 +2,7 @@
 ghost use Rattle.std.specs.Prelude.{◌≡◌, ◌+◌, ◌<◌, ◌^◌, ◌∷◌, [], ◌++◌, List, IfOk, OnErr, OnOk, length};
 ghost use Rattle.dp_shell.specs.{HasWriteCause};
 ghost use Rattle.dp_frame.specs.{given};
-ghost use Rattle.dp_plant.specs.{IsFrameWithin};
+ghost use Rattle.dp_plant.specs.{IsFrameInRange};
 ghost use Rattle.dp_plant.specs.declared.frames.Frame.{Frame};
 ghost use Rattle.dp_app.specs.ReaderAnswers.{IsNext, fault_in};
 ghost use Rattle.dp_app.specs.Playing.{IsPlaying, Shows, StopsShowing};
@@ -30,7 +30,7 @@ impl Player {
     /// Plays what the reader of a record answers to a byte, or to its end, and answers the fault that this names, if any.
     pub fn play_feed<K: Sink>(&mut self, out: &mut K, feed: &Feed) -> Result<Option<Fault>, Trouble>
         requires playing { IsPlaying self.old }
-        requires next { IsNext self.old.count feed.now }
+        requires next { IsNext self.old.plant.groups self.old.count feed.now }
         ensures fault { IfOk result (λ fault. fault ≡ fault_in feed.now) }
         ensures ok { (fs : List Frame) → OnOk result
             (Shows self.old self.new (K.taken out.old) (K.taken out.new) fs
@@ -38,6 +38,7 @@ impl Player {
         ensures err { (fs : List Frame) → OnErr result
             (StopsShowing self.old (K.taken out.old) (K.taken out.new) fs (fs ++ given feed.now)) }
         ensures playing { IsPlaying self.new }
+        ensures plant { self.new.plant ≡ self.old.plant }
         ensures count { OnOk result (self.new.count ≡ self.old.count + length (given feed.now)) }
         ensures cause { HasWriteCause (K.faults out.old) (K.faults out.new) result }
     {
@@ -56,7 +57,7 @@ impl Player {
     fn play_gap<K: Sink>(&mut self, out: &mut K, frame: &Frame, empty: u64) -> Result<(), Trouble>
         requires playing { IsPlaying self.old }
         requires next { frame.now.cycle ≡ self.old.count }
-        requires within { IsFrameWithin frame.now }
+        requires within { IsFrameInRange self.old.plant.groups frame.now }
         requires few { frame.now.cycle + empty < 2 ^ 20 }
         ensures ok { (fs : List Frame) → OnOk result
             (Shows self.old self.new (K.taken out.old) (K.taken out.new) fs
@@ -65,6 +66,7 @@ impl Player {
             (StopsShowing self.old (K.taken out.old) (K.taken out.new) fs
             (fs ++ given (Feed.Closed frame.now empty))) }
         ensures playing { IsPlaying self.new }
+        ensures plant { self.new.plant ≡ self.old.plant }
         ensures count { OnOk result (self.new.count
             ≡ self.old.count + length (given (Feed.Closed frame.now empty))) }
         ensures cause { HasWriteCause (K.faults out.old) (K.faults out.new) result }
@@ -80,13 +82,14 @@ impl Player {
     fn play_frame<K: Sink>(&mut self, out: &mut K, frame: &Frame) -> Result<(), Trouble>
         requires playing { IsPlaying self.old }
         requires next { frame.now.cycle ≡ self.old.count }
-        requires within { IsFrameWithin frame.now }
+        requires within { IsFrameInRange self.old.plant.groups frame.now }
         ensures ok { (fs : List Frame) → OnOk result
             (Shows self.old self.new (K.taken out.old) (K.taken out.new) fs
             (fs ++ frame.now ∷ [])) }
         ensures err { (fs : List Frame) → OnErr result
             (StopsShowing self.old (K.taken out.old) (K.taken out.new) fs (fs ++ frame.now ∷ [])) }
         ensures playing { IsPlaying self.new }
+        ensures plant { self.new.plant ≡ self.old.plant }
         ensures count { self.new.count ≡ self.old.count + 1 }
         ensures cause { HasWriteCause (K.faults out.old) (K.faults out.new) result }
     {

@@ -1,7 +1,6 @@
 //! A replay: the blocks of a record's cycles, and the last line.
 ghost use Rattle.std.specs.Prelude.{◌≡◌, ◌≢◌, ◌≤◌, ◌^◌, [], IfOk, OnErr, OnOk, length};
 ghost use Rattle.dp_shell.specs.{HasWriteCause, Rose};
-ghost use Rattle.dp_plant.specs.{IsSoundPlant};
 ghost use Rattle.dp_app.specs.{HasPlayed, HasWritten, IsAnnounced, IsOfInputs, IsOfRecord, NoReadFailed, Shows, StopsShowing, play_of, played_out, prefix_read};
 
 use crate::Status;
@@ -15,7 +14,6 @@ use dp_trig::Trig;
 
 /// Replays a record, of which the text may go on past its limit.
 pub fn replay<K: Sink>(player: &mut Player, out: &mut K, file: &FilePart) -> Status
-    requires sound { IsSoundPlant player.old.plant }
     requires played { HasPlayed player.old.plant player.old.script player.old [] }
     requires size { length file.now.text.items ≤ 2 ^ 36 }
     ensures status { IsOfInputs result
@@ -40,7 +38,6 @@ fn play_record<K: Sink>(
     out: &mut K,
     file: &FilePart,
 ) -> Result<Option<Fault>, Trouble>
-    requires sound { IsSoundPlant player.old.plant }
     requires played { HasPlayed player.old.plant player.old.script player.old [] }
     requires size { length file.now.text.items ≤ 2 ^ 36 }
     ensures fault { IfOk result (λ fault. fault

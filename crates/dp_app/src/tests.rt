@@ -1,28 +1,91 @@
 use super::*;
+use dp_plant::samples::{S1, text_of};
 use dp_shell::{MemoryShelf, MemorySink, PlainShelf, PlainSink, fits_shelf};
 use std::process::Abort;
 use std::test::Fail;
 
+mod plants;
 mod readings;
 mod refusals;
 mod replays;
 
-/// A record and a script, as files.
-fn files(alloc: Global, record: &[u8], script: &[u8]) -> Result<Vec<(String, Vec<u8>)>, Fail> {
-    let record = (String::from_str(alloc, "record")?, record.to_vec(alloc)?);
-    let script = (String::from_str(alloc, "script")?, script.to_vec(alloc)?);
-    Ok(vec![in alloc; record, script]?)
+/// What a unit of demand takes, in place of the sample plant's.
+const UNIT_MASSES: &str = "mass = [1048576, 0, 0]\ntol = [1048576, 0, 0]";
+
+/// A thruster for each axis, of which the force is the demand itself while its group is not lost.
+const ONE_AN_AXIS: &str = "[[thruster]]
+group = 0
+at = [0, 0]
+azimuth = 0
+min = -50000000
+max = 50000000
+[[thruster]]
+group = 0
+at = [0, 0]
+azimuth = 0
+min = -30000000
+max = 30000000
+[[thruster]]
+group = 0
+at = [0, 0]
+azimuth = 0
+min = -60000000
+max = 60000000
+[[case]]
+lost = 0
+lo = [-50000000, -30000000, -60000000]
+hi = [50000000, 30000000, 60000000]
+b = [[1048576, 0, 0], [0, 1048576, 0], [0, 0, 1048576]]
+[[case]]
+lost = 1
+lo = [-50000000, -30000000, -60000000]
+hi = [50000000, 30000000, 60000000]
+b = [[0, 0, 0], [0, 0, 0], [0, 0, 0]]
+[[case]]
+lost = 2
+lo = [-50000000, -30000000, -60000000]
+hi = [50000000, 30000000, 60000000]
+b = [[1048576, 0, 0], [0, 1048576, 0], [0, 0, 1048576]]";
+
+/// The file of a plant with the gains of the sample plant and one thruster for each axis.
+fn plain_plant(alloc: Global) -> Result<String, Fail> {
+    let sample = text_of(alloc, S1)?;
+    let (vessel, rest) = sample.split_once("mass = ").unwrap_or(("", ""));
+    let (_, rest) = rest.split_once("[[ref]]").unwrap_or(("", ""));
+    let (sensors, rest) = rest.split_once("[[thruster]]").unwrap_or(("", ""));
+    let (_, gains) = rest.split_once("[gains]").unwrap_or(("", ""));
+    let lines = [
+        vessel,
+        UNIT_MASSES,
+        "[[ref]]",
+        sensors,
+        ONE_AN_AXIS,
+        "[gains]",
+        gains,
+    ];
+    Ok(text_of(alloc, &lines)?)
 }
 
-/// Runs these words over a record and a script, and shows the exit code, a `~` and what was written.
+/// A plant, a record and a script, as files.
+fn named(
+    alloc: Global,
+    plant: &[u8],
+    record: &[u8],
+    script: &[u8],
+) -> Result<Vec<(String, Vec<u8>)>, Fail> {
+    let plant = (String::from_str(alloc, "plant")?, plant.to_vec(alloc)?);
+    let record = (String::from_str(alloc, "record")?, record.to_vec(alloc)?);
+    let script = (String::from_str(alloc, "script")?, script.to_vec(alloc)?);
+    Ok(vec![in alloc; plant, record, script]?)
+}
+
+/// Runs these words over files that never fail, and shows the exit code, a `~` and what was written.
 fn told(
     rt: &impl Abort,
     alloc: Global,
     words: &[&str],
-    record: &[u8],
-    script: &[u8],
+    files: Vec<(String, Vec<u8>)>,
 ) -> Result<String, Fail> {
-    let files = files(alloc, record, script)?;
     assert!(rt; fits_shelf(&files));
     let mut shelf = PlainShelf::new(files);
     let mut out = PlainSink::new(alloc);
@@ -31,12 +94,27 @@ fn told(
     Ok(format!(in alloc; "{code}~{text}")?)
 }
 
-/// Plays a record and a script, and shows the same.
+/// Plays a record and a script on the plain plant, and shows the same but for the lines of alarms.
 fn played(rt: &impl Abort, alloc: Global, record: &[u8], script: &[u8]) -> Result<String, Fail> {
-    told(rt, alloc, &["replay", "record", "script"], record, script)
+    let plant = plain_plant(alloc)?;
+    let files = named(alloc, plant.as_bytes(), record, script)?;
+    let text = told(rt, alloc, &["replay", "plant", "record", "script"], files)?;
+    without_alarms(alloc, &text)
 }
 
-/// Plays a row, `script~record~code~text`, and looks for its code and text.
+/// What was written, but for the lines of alarms.
+fn without_alarms(alloc: Global, text: &str) -> Result<String, Fail> {
+    let mut rest = String::new(alloc);
+    for line in text.lines() {
+        if !line.starts_with("alarm ") {
+            rest.push_str(line)?;
+            rest.push('\n')?;
+        }
+    }
+    Ok(rest)
+}
+
+/// Plays a row, `script~record~code~text`, and looks for its code and text, in which alarms are left out.
 fn plays(rt: &impl Abort, alloc: Global, row: &str) -> Result<(), Fail> {
     let (script, rest) = row.split_once('~').unwrap_or(("", ""));
     let (record, wanted) = rest.split_once('~').unwrap_or(("", ""));
@@ -151,7 +229,7 @@ fn bytes_are_judged(rt: HostRuntime) -> Result<(), Fail> {
 }
 
 /// The words of a line, between its spaces.
-fn words(alloc: Global, line: &str) -> Result<Vec<&str>, Fail> {
+fn words_in(alloc: Global, line: &str) -> Result<Vec<&str>, Fail> {
     let mut words = Vec::new(alloc);
     for word in line.split_whitespace() {
         words.push(word)?;
@@ -163,23 +241,34 @@ fn words(alloc: Global, line: &str) -> Result<Vec<&str>, Fail> {
 #[test]
 fn words_are_told(rt: HostRuntime) -> Result<(), Fail> {
     let alloc = rt.alloc();
+    let plant = plain_plant(alloc)?;
     let rows = [
         "~2~fault usage\n",
         "replay~2~fault usage\n",
-        "replay record~2~fault usage\n",
-        "replay record script~0~end 0\n",
-        "replay record script more~2~fault usage\n",
-        "Replay record script~2~fault usage\n",
-        "check record script~2~fault usage\n",
-        "replay record none~3~fault read script\n",
-        "replay none script~3~fault read record\n",
-        "replay none none~3~fault read script\n",
-        "replay script script~0~end 0\n",
+        "replay record script~2~fault usage\n",
+        "replay plant record script~0~end 0\n",
+        "replay -- plant record script~0~end 0\n",
+        "replay plant record script more~2~fault usage\n",
+        "replay plant record script -x~2~fault usage\n",
+        "Replay plant record script~2~fault usage\n",
+        "check~2~fault usage\n",
+        "check plant record~2~fault usage\n",
+        "check script~5~fault plant missing plant.version\n",
+        "check none~3~fault read plant\n",
+        "--help~2~fault usage\n",
+        "check --help~2~fault usage\n",
+        "make 0~2~fault usage\n",
+        "trial plant 0~2~fault usage\n",
+        "replay none none none~3~fault read plant\n",
+        "replay plant none none~3~fault read script\n",
+        "replay plant none script~3~fault read record\n",
+        "replay plant script script~0~end 0\n",
     ];
     for row in rows {
         let (line, wanted) = row.split_once('~').unwrap_or(("", ""));
-        let words = words(alloc, line)?;
-        let seen = told(&rt, alloc, &words, b"", b"")?;
+        let words = words_in(alloc, line)?;
+        let files = named(alloc, plant.as_bytes(), b"", b"")?;
+        let seen = told(&rt, alloc, &words, files)?;
         assert_eq!(rt; seen.as_str(), wanted, "on {row}");
     }
     Ok(())
@@ -197,56 +286,57 @@ fn with_failing(
     script: &[u8],
     record: &[u8],
 ) -> Result<String, Fail> {
-    let files = files(alloc, record, script)?;
+    let plant = plain_plant(alloc)?;
+    let files = named(alloc, plant.as_bytes(), record, script)?;
     assert!(rt; fits_shelf(&files));
     let mut shelf = MemoryShelf::new(files, vec![in alloc; read]?);
     let mut out = MemorySink::new(alloc, vec![in alloc; write]?);
-    let words = ["replay", "record", "script"];
+    let words = ["replay", "plant", "record", "script"];
     let code = run(alloc, &words, &mut shelf, &mut out).code();
     let text = String::from_utf8(out.bytes().to_vec(alloc)?)?;
-    Ok(format!(in alloc; "{code}~{text}")?)
+    without_alarms(alloc, &format!(in alloc; "{code}~{text}")?)
 }
 
-/// The read, or the write, of each number fails.
+/// The read, or the write, of each number fails: `read~write~code~text`.
 #[test]
 fn failures_are_told(rt: HostRuntime) -> Result<(), Fail> {
     let rows = [
-        (1, 0, "3~fault read script\n"),
-        (2, 0, "3~fault read script\n"),
-        (3, 0, "3~fault read record\n"),
-        (4, 0, "3~fault read record\n"),
-        (
-            5,
-            0,
-            "0~cycle 0 LLL\nt0 F 0 0 0 0\nt1 F 0 0 0 0\nt2 F 0 0 0 0\ncycle 1 LLL\nt0 F -68360 -68360 -68360 -68360\nt1 F 0 0 0 0\nt2 F 0 0 0 0\nend 2\n",
-        ),
-        (0, 1, "4~"),
-        (
-            0,
-            2,
-            "4~cycle 0 LLL\nt0 F 0 0 0 0\nt1 F 0 0 0 0\nt2 F 0 0 0 0\n",
-        ),
-        (
-            0,
-            3,
-            "4~cycle 0 LLL\nt0 F 0 0 0 0\nt1 F 0 0 0 0\nt2 F 0 0 0 0\ncycle 1 LLL\nt0 F -68360 -68360 -68360 -68360\nt1 F 0 0 0 0\nt2 F 0 0 0 0\n",
-        ),
-        (
-            0,
-            4,
-            "0~cycle 0 LLL\nt0 F 0 0 0 0\nt1 F 0 0 0 0\nt2 F 0 0 0 0\ncycle 1 LLL\nt0 F -68360 -68360 -68360 -68360\nt1 F 0 0 0 0\nt2 F 0 0 0 0\nend 2\n",
-        ),
-        (1, 1, "4~"),
-        (1, 2, "3~fault read script\n"),
+        "1~0~3~fault read plant\n",
+        "2~0~3~fault read plant\n",
+        "3~0~3~fault read script\n",
+        "4~0~3~fault read script\n",
+        "5~0~3~fault read record\n",
+        "6~0~3~fault read record\n",
+        "7~0~0~cycle 0 LLL\nt0 F 0 0 0 0\nt1 F 0 0 0 0\nt2 F 0 0 0 0\ncycle 1 LLL\nt0 F -68360 -68360 -68360 -68360\nt1 F 0 0 0 0\nt2 F 0 0 0 0\nend 2\n",
+        "0~1~4~\n",
+        "0~2~4~cycle 0 LLL\nt0 F 0 0 0 0\nt1 F 0 0 0 0\nt2 F 0 0 0 0\n",
+        "0~3~4~cycle 0 LLL\nt0 F 0 0 0 0\nt1 F 0 0 0 0\nt2 F 0 0 0 0\ncycle 1 LLL\nt0 F -68360 -68360 -68360 -68360\nt1 F 0 0 0 0\nt2 F 0 0 0 0\n",
+        "0~4~0~cycle 0 LLL\nt0 F 0 0 0 0\nt1 F 0 0 0 0\nt2 F 0 0 0 0\ncycle 1 LLL\nt0 F -68360 -68360 -68360 -68360\nt1 F 0 0 0 0\nt2 F 0 0 0 0\nend 2\n",
+        "1~1~4~\n",
+        "3~2~3~fault read script\n",
     ];
-    for (read, write, wanted) in rows {
-        let seen = with_failing(&rt, rt.alloc(), read, write, b"1 usual\n", TWO_CYCLES)?;
-        assert_eq!(rt; seen.as_str(), wanted, "read {read}, write {write}");
+    for row in rows {
+        let (read, rest) = row.split_once('~').unwrap_or(("", ""));
+        let (write, wanted) = rest.split_once('~').unwrap_or(("", ""));
+        let seen = with_failing(
+            &rt,
+            rt.alloc(),
+            number(read),
+            number(write),
+            b"1 usual\n",
+            TWO_CYCLES,
+        )?;
+        assert_eq!(rt; seen.as_str(), wanted, "on {row}");
     }
     // an empty script is read once
-    let seen = with_failing(&rt, rt.alloc(), 2, 0, b"", TWO_CYCLES)?;
+    let seen = with_failing(&rt, rt.alloc(), 4, 0, b"", TWO_CYCLES)?;
     assert_eq!(rt; seen.as_str(), "3~fault read record\n");
     Ok(())
+}
+
+/// The number that a digit writes.
+fn number(text: &str) -> u64 {
+    text.parse().unwrap_or(0)
 }
 
 /// Records that are read in many pieces: so many lines of one cycle.

@@ -1,25 +1,47 @@
-ghost use Rattle.std.specs.Prelude.{◌≡◌};
-ghost use Rattle.std.specs.Option.{option_map};
+//! The command that words ask for.
+ghost use Rattle.std.specs.Prelude.{◌≡◌, option_map};
 ghost use Rattle.dp_shell.specs.{texts_of};
-ghost use Rattle.dp_app.specs.Words.{names_in};
-ghost use Rattle.dp_app.specs.Named.{shown_names};
+ghost use Rattle.dp_app.specs.Words.{GivesCommand, command_by, command_in, shown_command};
 
-/// The files that a replay names.
+use crate::command_line::{WordsFault, words_of};
+use std::alloc::Global;
+
+/// A command, with the names of its files.
 #[derive(Clone, Copy, Debug)]
-pub struct Names<'a> {
-    pub record: &'a str,
-    pub script: &'a str,
+pub enum Command<'a> {
+    /// Replays a record on a plant's three computers, with the faults that a script says.
+    Replay {
+        plant: &'a str,
+        record: &'a str,
+        script: &'a str,
+    },
+    /// Tells how far a bad position reference can move each thruster of a plant.
+    Check { plant: &'a str },
 }
 
-/// The names in `replay RECORD SCRIPT`; none where the words are no command.
-pub fn names_in<'a>(words: &[&'a str]) -> Option<Names<'a>>
-    ensures { option_map shown_names result ≡ names_in (texts_of words.now) }
+/// The command of a command line, unless its words are no command.
+#[tactic(auto, unfolding(crate::specs::Words::command_in))]
+pub fn command_in<'a>(alloc: Global, words: &'a [&'a str]) -> Result<Command<'a>, WordsFault>
+    ensures { GivesCommand result (command_in (texts_of words.entry.now)) }
 {
-    if words.len() != 3 || words[0] != "replay" {
-        return None;
+    let words = words_of(alloc, words)?;
+    command_by(&words).ok_or(WordsFault::Usage)
+}
+
+/// The command of these words: a verb, and the names of its files.
+#[tactic(auto, unfolding(crate::specs::Words::command_by))]
+fn command_by<'a>(words: &[&'a str]) -> Option<Command<'a>>
+    ensures { option_map shown_command result ≡ command_by (texts_of words.now) }
+{
+    if words.len() == 2 && words[0] == "check" {
+        return Some(Command::Check { plant: words[1] });
     }
-    Some(Names {
-        record: words[1],
-        script: words[2],
-    })
+    if words.len() == 4 && words[0] == "replay" {
+        return Some(Command::Replay {
+            plant: words[1],
+            record: words[2],
+            script: words[3],
+        });
+    }
+    None
 }

@@ -196,9 +196,7 @@ in_range g y c h =
     let l = all_fit _ (law_rows g c.parts) w.0 in
     let o = all_fit _ (observer_rows g) l.0 in
     record {
-      observer = observer_facts g c.parts o.1 l.1;
-      law = law_facts g c.parts l.1;
-      yaw = yaw_facts y w.1;
+      gains = record { observer = observer_facts g c.parts o.1 l.1; law = law_facts g c.parts l.1; yaw = yaw_facts y w.1 };
       numbers = number_facts c n.1;
       parts = p.1;
     }

@@ -50,9 +50,13 @@ abbrev pub AreParts : Parts → Type 0
 AreParts (Three l) = AreLists l
 AreParts (Five l) = AreLists l × AreWaveSpans l
 
-pub record IsInRange (g : Gains) (y : YawGains) (c : Cert) : Type 0 where
+-- gains that a machine can be run with, of plane and yaw
+pub record AreGainsWithin (g : Gains) (y : YawGains) : Type 0 where
   pub observer : IsObserverGains g
   pub law : IsLawGains g
   pub yaw : IsYawGains y
+
+pub record IsInRange (g : Gains) (y : YawGains) (c : Cert) : Type 0 where
+  pub gains : AreGainsWithin g y
   pub numbers : AreNumbers c
   pub parts : AreParts c.parts

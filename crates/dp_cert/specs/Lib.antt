@@ -14,7 +14,7 @@ pub use Rattle.dp_cert.specs.Loop.{axis_three, bias_row, loop_three, place_row, 
 pub use Rattle.dp_cert.specs.WaveLoop.{loop_five}
 pub use Rattle.dp_cert.specs.Sizes.{IsSmallAxis, IsSmallLoop}
 pub use Rattle.dp_cert.specs.Ranges.{first_out, squares_at, squares_of}
-pub use Rattle.dp_cert.specs.InRange.{AreLists, AreNumbers, AreParts, AreWaveSpans, IsUpTo}
+pub use Rattle.dp_cert.specs.InRange.{AreGainsWithin, AreLists, AreNumbers, AreParts, AreWaveSpans, IsUpTo}
 pub use Rattle.dp_cert.specs.Width.{first_heavy, first_too_wide, first_wide, is_heavy, is_wide, reach, row_heavy, width}
 pub use Rattle.dp_cert.specs.Valid.{IsRefusal, IsValid, first_fault, first_short}
 pub use Rattle.dp_cert.specs.Sound.{IsSound}

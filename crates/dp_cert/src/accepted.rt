@@ -2,6 +2,7 @@
 ghost use Rattle.std.specs.Prelude.{◌≡◌, ◌≤◌, ◌↔◌, All, IfErr, IfOk, IsOk, OnOk, length, map};
 ghost use Rattle.dp_cert.specs.Bound.{IsShareRow, bound};
 ghost use Rattle.dp_cert.specs.Ranges.{first_out};
+ghost use Rattle.dp_cert.specs.InRange.{AreGainsWithin};
 ghost use Rattle.dp_cert.specs.Sound.{IsSound};
 ghost use Rattle.dp_cert.specs.Valid.{IsRefusal, IsValid, first_fault};
 
@@ -41,6 +42,7 @@ pub fn accept(g: &Gains, y: &YawGains, c: &Cert) -> Result<Accepted, CertFault>
     ensures accepted { IsOk result ↔ IsValid g.now y.now c.now }
     ensures refused { IfErr result
         (IsRefusal (first_out g.now y.now c.now) (first_fault g.now c.now)) }
+    ensures within { OnOk result (AreGainsWithin g.now y.now) }
     ensures sound { OnOk result (IsSound g.now c.now) }
     ensures kept { IfOk result (λ a. (a.gains ≡ g.now) × (a.yaw ≡ y.now) × (a.cert ≡ c.now)) }
 {

@@ -10,6 +10,33 @@ use dp_plant::Cert;
 /// Shares of a case are over 2^20.
 const SHARE: i128 = 1 << 20;
 
+/// The two numbers of a row.
+#[tactic(auto, unfolding(crate::specs::Bound::bound))]
+pub(crate) fn bound_of(c: &Cert, row: &[i64; 3]) -> (i128, i128)
+    requires numbers { AreNumbers c.now }
+    requires rate { c.now.rho <ℤ full_scale }
+    requires row { IsShareRow row.now }
+    ensures { result ≡ bound c.now row.now }
+{
+    let (surge, sway) = sizes(row);
+    let weight = weight(&c.g, surge, sway);
+    let gap = margin(c.rho);
+    let moved = moved(weight, wide(c.b), gap);
+    let rounded = rounded(weight, wide(c.r), gap);
+    (moved, besides(surge, sway, rounded))
+}
+
+/// The absolute values of a row's shares of surge and sway.
+fn sizes(row: &[i64; 3]) -> (i128, i128)
+    requires { IsShareRow row.now }
+    ensures surge { result.0 ≡ share_size row.now 0 }
+    ensures sway { result.1 ≡ share_size row.now 1 }
+    ensures surge_bound { IsUpTo (pos (2 ^ 31)) result.0 }
+    ensures sway_bound { IsUpTo (pos (2 ^ 31)) result.1 }
+{
+    (size(row[0]), size(row[1]))
+}
+
 /// The absolute value of a share.
 fn size(share: i64) -> i128
     requires { unsigned_abs share ≤ 2 ^ 31 }
@@ -19,13 +46,15 @@ fn size(share: i64) -> i128
     (share as i128).abs()
 }
 
-fn product(a: i128, b: i128) -> i128
-    requires low { pos 0 ≤ℤ (a *ℤ b) }
-    requires high { (a *ℤ b) ≤ℤ pos (2 ^ 122) }
-    ensures value { result ≡ a *ℤ b }
-    ensures bound { IsUpTo (pos (2 ^ 122)) result }
+/// The shares, each times the greatest demand.
+fn weight(g: &[i64; 2], surge: i128, sway: i128) -> i128
+    requires demands { (j : ℕ) → IsUpTo (pos (2 ^ 40)) (entry g.now j) }
+    requires surge { IsUpTo (pos (2 ^ 31)) surge }
+    requires sway { IsUpTo (pos (2 ^ 31)) sway }
+    ensures value { result ≡ surge *ℤ entry g.now 0 +ℤ sway *ℤ entry g.now 1 }
+    ensures bound { IsUpTo (pos (2 ^ 72)) result }
 {
-    a * b
+    sum(part(surge, demand(g, 0)), part(sway, demand(g, 1)))
 }
 
 /// A share of the greatest demand.
@@ -38,14 +67,25 @@ fn part(share: i128, demand: i128) -> i128
     product(share, demand)
 }
 
-/// The whole part of a fraction, and its remainder.
-fn split(n: i128, d: i128) -> (i128, i128)
-    requires n { pos 0 ≤ℤ n }
-    requires d { pos 0 <ℤ d }
-    ensures split { IsSplit n d result.0 result.1 }
-    ensures most { result.0 ≤ℤ n }
+/// The greatest demand of surge or sway.
+fn demand(g: &[i64; 2], axis: usize) -> i128
+    requires axis { axis < 2 }
+    requires demands { (j : ℕ) → IsUpTo (pos (2 ^ 40)) (entry g.now j) }
+    ensures value { result ≡ entry g.now axis }
+    ensures bound { IsUpTo (pos (2 ^ 40)) result }
 {
-    (n.div_euclid(d), n.rem_euclid(d))
+    wide(g[axis])
+}
+
+/// One less the rate.
+fn margin(rho: i64) -> i128
+    requires low { pos 0 ≤ℤ rho }
+    requires high { rho <ℤ full_scale }
+    ensures value { result ≡ full_scale -ℤ rho }
+    ensures least { pos 0 <ℤ result }
+    ensures greatest { result ≤ℤ full_scale }
+{
+    difference(Q, wide(rho))
 }
 
 /// What each nanometre between the two other references moves.
@@ -57,19 +97,6 @@ fn moved(weight: i128, b: i128, gap: i128) -> i128
     ensures { result ≡ ceil_of (weight *ℤ b) (full_scale *ℤ gap) }
 {
     ceil_div(product(weight, b), Q * gap)
-}
-
-/// What the remainders of two divisions make together.
-fn rest(kept: i128, demand: i128, gap: i128) -> i128
-    requires kept_low { pos 0 ≤ℤ kept }
-    requires kept_high { kept <ℤ gap }
-    requires demand_low { pos 0 ≤ℤ demand }
-    requires demand_high { demand <ℤ full_scale }
-    requires greatest { gap ≤ℤ full_scale }
-    ensures value { result ≡ ceil_of (full_scale *ℤ kept +ℤ demand *ℤ gap) (full_scale *ℤ gap) }
-    ensures bound { IsUpTo (pos 2) result }
-{
-    ceil_div(Q * kept + product(demand, gap), Q * gap)
 }
 
 /// What moves besides, by the rounding: whole parts and remainders apart, since the numerator can pass 128 bits.
@@ -87,54 +114,27 @@ fn rounded(weight: i128, r: i128, gap: i128) -> i128
     sum(kept, least)
 }
 
-/// The absolute values of a row's shares of surge and sway.
-fn sizes(row: &[i64; 3]) -> (i128, i128)
-    requires { IsShareRow row.now }
-    ensures surge { result.0 ≡ share_size row.now 0 }
-    ensures sway { result.1 ≡ share_size row.now 1 }
-    ensures surge_bound { IsUpTo (pos (2 ^ 31)) result.0 }
-    ensures sway_bound { IsUpTo (pos (2 ^ 31)) result.1 }
+/// The whole part of a fraction, and its remainder.
+fn split(n: i128, d: i128) -> (i128, i128)
+    requires n { pos 0 ≤ℤ n }
+    requires d { pos 0 <ℤ d }
+    ensures split { IsSplit n d result.0 result.1 }
+    ensures most { result.0 ≤ℤ n }
 {
-    (size(row[0]), size(row[1]))
+    (n.div_euclid(d), n.rem_euclid(d))
 }
 
-/// The same number in 128 bits.
-fn wide(x: i64) -> i128
-    ensures { result ≡ x }
+/// What the remainders of two divisions make together.
+fn rest(kept: i128, demand: i128, gap: i128) -> i128
+    requires kept_low { pos 0 ≤ℤ kept }
+    requires kept_high { kept <ℤ gap }
+    requires demand_low { pos 0 ≤ℤ demand }
+    requires demand_high { demand <ℤ full_scale }
+    requires greatest { gap ≤ℤ full_scale }
+    ensures value { result ≡ ceil_of (full_scale *ℤ kept +ℤ demand *ℤ gap) (full_scale *ℤ gap) }
+    ensures bound { IsUpTo (pos 2) result }
 {
-    x as i128
-}
-
-/// The greatest demand of surge or sway.
-fn demand(g: &[i64; 2], axis: usize) -> i128
-    requires axis { axis < 2 }
-    requires demands { (j : ℕ) → IsUpTo (pos (2 ^ 40)) (entry g.now j) }
-    ensures value { result ≡ entry g.now axis }
-    ensures bound { IsUpTo (pos (2 ^ 40)) result }
-{
-    wide(g[axis])
-}
-
-/// The shares, each times the greatest demand.
-fn weight(g: &[i64; 2], surge: i128, sway: i128) -> i128
-    requires demands { (j : ℕ) → IsUpTo (pos (2 ^ 40)) (entry g.now j) }
-    requires surge { IsUpTo (pos (2 ^ 31)) surge }
-    requires sway { IsUpTo (pos (2 ^ 31)) sway }
-    ensures value { result ≡ surge *ℤ entry g.now 0 +ℤ sway *ℤ entry g.now 1 }
-    ensures bound { IsUpTo (pos (2 ^ 72)) result }
-{
-    sum(part(surge, demand(g, 0)), part(sway, demand(g, 1)))
-}
-
-/// One less the rate.
-fn margin(rho: i64) -> i128
-    requires low { pos 0 ≤ℤ rho }
-    requires high { rho <ℤ full_scale }
-    ensures value { result ≡ full_scale -ℤ rho }
-    ensures least { pos 0 <ℤ result }
-    ensures greatest { result ≤ℤ full_scale }
-{
-    difference(Q, wide(rho))
+    ceil_div(Q * kept + product(demand, gap), Q * gap)
 }
 
 /// The shares and the rounding together.
@@ -147,18 +147,18 @@ fn besides(surge: i128, sway: i128, rounded: i128) -> i128
     sum(sum(sum(surge, sway), SHARE), rounded)
 }
 
-/// The two numbers of a row.
-#[tactic(auto, unfolding(crate::specs::Bound::bound))]
-pub(crate) fn bound_of(c: &Cert, row: &[i64; 3]) -> (i128, i128)
-    requires numbers { AreNumbers c.now }
-    requires rate { c.now.rho <ℤ full_scale }
-    requires row { IsShareRow row.now }
-    ensures { result ≡ bound c.now row.now }
+fn product(a: i128, b: i128) -> i128
+    requires low { pos 0 ≤ℤ (a *ℤ b) }
+    requires high { (a *ℤ b) ≤ℤ pos (2 ^ 122) }
+    ensures value { result ≡ a *ℤ b }
+    ensures bound { IsUpTo (pos (2 ^ 122)) result }
 {
-    let (surge, sway) = sizes(row);
-    let weight = weight(&c.g, surge, sway);
-    let gap = margin(c.rho);
-    let moved = moved(weight, wide(c.b), gap);
-    let rounded = rounded(weight, wide(c.r), gap);
-    (moved, besides(surge, sway, rounded))
+    a * b
+}
+
+/// The same number in 128 bits.
+fn wide(x: i64) -> i128
+    ensures { result ≡ x }
+{
+    x as i128
 }

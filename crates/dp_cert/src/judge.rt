@@ -40,6 +40,99 @@ use dp_fixed::Q;
 use dp_form::Squares;
 use dp_plant::{Cert, Gains, Lists, Parts};
 
+/// The first condition that fails, of gains and a certificate whose numbers are in range.
+#[tactic(auto, unfolding(crate::specs::Valid::first_fault))]
+pub(crate) fn first_fault(g: &Gains, c: &Cert) -> Option<CertFault>
+    requires observer { IsObserverGains g.now }
+    requires law { IsLawGains g.now }
+    requires numbers { AreNumbers c.now }
+    requires parts { AreParts c.now.parts }
+    ensures value { result ≡ first_fault g.now c.now }
+    ensures sound { result ≡ None → IsSound g.now c.now }
+{
+    match &c.parts {
+        Parts::Three(l) => fault_of_three(g, c, l),
+        Parts::Five(l) => fault_of_five(g, c, l),
+    }
+}
+
+fn fault_of_three(g: &Gains, c: &Cert, l: &Lists<3>) -> Option<CertFault>
+    requires observer { IsObserverGains g.now }
+    requires law { IsLawGains g.now }
+    requires numbers { AreNumbers c.now }
+    requires lists { AreLists l.now }
+    ensures value { result ≡ list_fault c.now l.now (loop_three g.now) (first_span l.now) }
+    ensures sound { result ≡ None → IsSoundLoop c.now l.now (loop_three g.now) }
+    ensures bounded { result ≡ None → AreBounded l.now }
+{
+    let spans = first_span(l);
+    list_fault(c, l, &loop_three(g), spans)
+}
+
+fn fault_of_five(g: &Gains, c: &Cert, l: &Lists<5>) -> Option<CertFault>
+    requires observer { IsObserverGains g.now }
+    requires law { IsLawGains g.now }
+    requires numbers { AreNumbers c.now }
+    requires lists { AreLists l.now }
+    requires wave { AreWaveSpans l.now }
+    ensures value { result ≡ list_fault c.now l.now (loop_five g.now) (first_wave_span l.now) }
+    ensures sound { result ≡ None → IsSoundLoop c.now l.now (loop_five g.now) }
+    ensures bounded { result ≡ None → AreBounded l.now }
+{
+    let spans = first_wave_span(l);
+    list_fault(c, l, &loop_five(g), spans)
+}
+
+/// The first condition that fails, of a certificate whose numbers are in range.
+#[tactic(auto, unfolding(crate::specs::Valid::list_fault, crate::specs::Valid::width_condition))]
+fn list_fault<const N: usize>(
+    c: &Cert,
+    l: &Lists<N>,
+    m: &Loop<N>,
+    spans: Option<CertFault>,
+) -> Option<CertFault>
+    requires size { (N ≡ 3) ⊎ (N ≡ 5) }
+    requires numbers { AreNumbers c.now }
+    requires lists { AreLists l.now }
+    requires small { IsSmallLoop m.now }
+    ensures value { result ≡ list_fault c.now l.now m.now spans }
+    ensures sound { result ≡ None → IsSoundLoop c.now l.now m.now }
+    ensures spans { result ≡ None → spans ≡ None }
+{
+    match first_shape(c, l, m, spans) {
+        Some(fault) => Some(fault),
+        None => {
+            let coordinate = first_too_wide(c, l)?;
+            Some(CertFault::TooWide { coordinate })
+        }
+    }
+}
+
+/// The first condition that fails but for the widths, by what the spans' gives.
+#[tactic(auto, unfolding(crate::specs::Valid::first_shape))]
+fn first_shape<const N: usize>(
+    c: &Cert,
+    l: &Lists<N>,
+    m: &Loop<N>,
+    spans: Option<CertFault>,
+) -> Option<CertFault>
+    requires size { (N ≡ 3) ⊎ (N ≡ 5) }
+    requires numbers { AreNumbers c.now }
+    requires lists { AreLists l.now }
+    requires small { IsSmallLoop m.now }
+    ensures value { result ≡ first_shape c.now l.now m.now spans }
+    ensures sound { result ≡ None → IsSoundLoop c.now l.now m.now }
+    ensures spans { result ≡ None → spans ≡ None }
+{
+    rate_condition(c)
+        .or(form_condition(l))
+        .or(first_vertex(c, l, m))
+        .or(input_condition(c, l, m))
+        .or(round_condition(c, l, m))
+        .or(first_output(c, l, m))
+        .or(spans)
+}
+
 #[tactic(auto, unfolding(crate::specs::Valid::rate_condition))]
 fn rate_condition(c: &Cert) -> Option<CertFault>
     requires { AreNumbers c.now }
@@ -65,6 +158,30 @@ fn form_condition<const N: usize>(l: &Lists<N>) -> Option<CertFault>
         row: short.row,
         short: short.short,
     })
+}
+
+#[tactic(auto, unfolding(crate::specs::Valid::first_vertex))]
+fn first_vertex<const N: usize>(c: &Cert, l: &Lists<N>, m: &Loop<N>) -> Option<CertFault>
+    requires size { (N ≡ 3) ⊎ (N ≡ 5) }
+    requires numbers { AreNumbers c.now }
+    requires lists { AreLists l.now }
+    requires small { IsSmallLoop m.now }
+    ensures value { result ≡ first_vertex c.now l.now m.now }
+    ensures surge_saturated { result ≡ None → Shrinks c.now l.now m.now.surge.saturated }
+    ensures surge_clamped { result ≡ None → Shrinks c.now l.now m.now.surge.clamped }
+    ensures surge_free { result ≡ None → Shrinks c.now l.now m.now.surge.free }
+    ensures sway_saturated { result ≡ None → Shrinks c.now l.now m.now.sway.saturated }
+    ensures sway_clamped { result ≡ None → Shrinks c.now l.now m.now.sway.clamped }
+    ensures sway_free { result ≡ None → Shrinks c.now l.now m.now.sway.free }
+{
+    let surge = &l.vertex[0];
+    let sway = &l.vertex[1];
+    vertex_condition(c, l, &m.surge.saturated, 0, 0, &surge[0])
+        .or(vertex_condition(c, l, &m.surge.clamped, 0, 1, &surge[1]))
+        .or(vertex_condition(c, l, &m.surge.free, 0, 2, third(surge)))
+        .or(vertex_condition(c, l, &m.sway.saturated, 1, 0, &sway[0]))
+        .or(vertex_condition(c, l, &m.sway.clamped, 1, 1, &sway[1]))
+        .or(vertex_condition(c, l, &m.sway.free, 1, 2, third(sway)))
 }
 
 // That the loop's matrix a shrinks the form.
@@ -95,146 +212,11 @@ fn vertex_condition<const N: usize>(
     })
 }
 
-// That the form bounds what the demand of an axis follows.
-#[tactic(auto, unfolding(crate::specs::Valid::output_condition))]
-fn output_condition<const N: usize>(
-    c: &Cert,
-    l: &Lists<N>,
-    followed: &[i128; N],
-    axis: usize,
-    which: usize,
-    squares: &Squares<N>,
-) -> Option<CertFault>
-    requires size { (N ≡ 3) ⊎ (N ≡ 5) }
-    requires axis { axis < 2 }
-    requires numbers { AreNumbers c.now }
-    requires lists { AreLists l.now }
-    requires vector { All (IsWithin (2 ^ 35)) followed.now }
-    requires place { squares.now.list.items ≡ squares_at l.now.output axis which }
-    requires squares { All IsSmallSquare (squares_at l.now.output axis which) }
-    ensures value { result ≡ output_condition c.now l.now followed.now axis which }
-    ensures bounds { result ≡ None → BoundsOutput c.now l.now followed.now axis }
-{
-    let short = output_short(&l.p, followed, number_of(&c.g, axis), squares)?;
-    Some(CertFault::OutputNotShown {
-        axis,
-        which,
-        row: short.row,
-        short: short.short,
-    })
-}
-
-// That the form bounds a coordinate.
-#[tactic(auto, unfolding(crate::specs::Valid::span_condition))]
-fn span_condition<const N: usize>(
-    l: &Lists<N>,
-    coordinate: usize,
-    squares: &Squares<N>,
-) -> Option<CertFault>
-    requires size { (N ≡ 3) ⊎ (N ≡ 5) }
-    requires coordinate { coordinate < N }
-    requires lists { AreLists l.now }
-    requires place { squares.now.list.items ≡ squares_of l.now.spans coordinate }
-    requires squares { All IsSmallSquare (squares_of l.now.spans coordinate) }
-    ensures value { result ≡ span_condition l.now coordinate }
-    ensures bounds { result ≡ None → BoundsCoordinate l.now coordinate }
-{
-    let vector = unit(coordinate);
-    let span = number_of(&l.span, coordinate);
-    let short = output_short(&l.p, &vector, span, squares)?;
-    Some(CertFault::SpanNotShown {
-        coordinate,
-        row: short.row,
-        short: short.short,
-    })
-}
-
 // The last list of an axis' vertices, and of its outputs.
 fn third<const N: usize>(lists: &[Squares<N>; 3]) -> &Squares<N>
     ensures { result.now.list.items ≡ squares_of lists.now 2 }
 {
     &lists[2]
-}
-
-fn second<const N: usize>(lists: &[Squares<N>; 2]) -> &Squares<N>
-    ensures { result.now.list.items ≡ squares_of lists.now 1 }
-{
-    &lists[1]
-}
-
-#[tactic(auto, unfolding(crate::specs::Valid::first_vertex))]
-fn first_vertex<const N: usize>(c: &Cert, l: &Lists<N>, m: &Loop<N>) -> Option<CertFault>
-    requires size { (N ≡ 3) ⊎ (N ≡ 5) }
-    requires numbers { AreNumbers c.now }
-    requires lists { AreLists l.now }
-    requires small { IsSmallLoop m.now }
-    ensures value { result ≡ first_vertex c.now l.now m.now }
-    ensures surge_saturated { result ≡ None → Shrinks c.now l.now m.now.surge.saturated }
-    ensures surge_clamped { result ≡ None → Shrinks c.now l.now m.now.surge.clamped }
-    ensures surge_free { result ≡ None → Shrinks c.now l.now m.now.surge.free }
-    ensures sway_saturated { result ≡ None → Shrinks c.now l.now m.now.sway.saturated }
-    ensures sway_clamped { result ≡ None → Shrinks c.now l.now m.now.sway.clamped }
-    ensures sway_free { result ≡ None → Shrinks c.now l.now m.now.sway.free }
-{
-    let surge = &l.vertex[0];
-    let sway = &l.vertex[1];
-    vertex_condition(c, l, &m.surge.saturated, 0, 0, &surge[0])
-        .or(vertex_condition(c, l, &m.surge.clamped, 0, 1, &surge[1]))
-        .or(vertex_condition(c, l, &m.surge.free, 0, 2, third(surge)))
-        .or(vertex_condition(c, l, &m.sway.saturated, 1, 0, &sway[0]))
-        .or(vertex_condition(c, l, &m.sway.clamped, 1, 1, &sway[1]))
-        .or(vertex_condition(c, l, &m.sway.free, 1, 2, third(sway)))
-}
-
-#[tactic(auto, unfolding(crate::specs::Valid::first_output))]
-fn first_output<const N: usize>(c: &Cert, l: &Lists<N>, m: &Loop<N>) -> Option<CertFault>
-    requires size { (N ≡ 3) ⊎ (N ≡ 5) }
-    requires numbers { AreNumbers c.now }
-    requires lists { AreLists l.now }
-    requires small { IsSmallLoop m.now }
-    ensures value { result ≡ first_output c.now l.now m.now }
-    ensures surge { result ≡ None → BoundsOutput c.now l.now m.now.surge.output 0 }
-    ensures surge_clamped { result ≡ None → BoundsOutput c.now l.now m.now.surge.clamped_output 0 }
-    ensures sway { result ≡ None → BoundsOutput c.now l.now m.now.sway.output 1 }
-    ensures sway_clamped { result ≡ None → BoundsOutput c.now l.now m.now.sway.clamped_output 1 }
-{
-    let surge = &l.output[0];
-    let sway = &l.output[1];
-    output_condition(c, l, &m.surge.output, 0, 0, &surge[0])
-        .or(output_condition(c, l, &m.surge.clamped_output, 0, 1, second(surge)))
-        .or(output_condition(c, l, &m.sway.output, 1, 0, &sway[0]))
-        .or(output_condition(c, l, &m.sway.clamped_output, 1, 1, second(sway)))
-}
-
-#[tactic(auto, unfolding(crate::specs::Valid::first_span))]
-fn first_span(l: &Lists<3>) -> Option<CertFault>
-    requires { AreLists l.now }
-    ensures value { result ≡ first_span l.now }
-    ensures place { result ≡ None → BoundsCoordinate l.now 0 }
-    ensures bias { result ≡ None → BoundsCoordinate l.now 1 }
-    ensures velocity { result ≡ None → BoundsCoordinate l.now 2 }
-{
-    span_condition(l, 0, &l.spans[0])
-        .or(span_condition(l, 1, &l.spans[1]))
-        .or(span_condition(l, 2, &l.spans[2]))
-}
-
-#[tactic(auto, unfolding(crate::specs::Valid::first_span, crate::specs::Valid::first_wave_span))]
-fn first_wave_span(l: &Lists<5>) -> Option<CertFault>
-    requires lists { AreLists l.now }
-    requires wave { AreWaveSpans l.now }
-    ensures value { result ≡ first_wave_span l.now }
-    ensures place { result ≡ None → BoundsCoordinate l.now 0 }
-    ensures bias { result ≡ None → BoundsCoordinate l.now 1 }
-    ensures velocity { result ≡ None → BoundsCoordinate l.now 2 }
-    ensures wave_p { result ≡ None → BoundsCoordinate l.now 3 }
-    ensures wave_q { result ≡ None → BoundsCoordinate l.now 4 }
-{
-    span_condition(l, 0, &l.spans[0])
-        .or(span_condition(l, 1, &l.spans[1]))
-        .or(span_condition(l, 2, &l.spans[2]))
-        .or(span_condition(l, 3, &l.spans[3]))
-        .or(span_condition(l, 4, &l.spans[4]))
 }
 
 #[tactic(auto, unfolding(crate::specs::Valid::input_condition))]
@@ -298,95 +280,113 @@ fn square(root: i128) -> i128
     root * root
 }
 
-/// The first condition that fails but for the widths, by what the spans' gives.
-#[tactic(auto, unfolding(crate::specs::Valid::first_shape))]
-fn first_shape<const N: usize>(
-    c: &Cert,
-    l: &Lists<N>,
-    m: &Loop<N>,
-    spans: Option<CertFault>,
-) -> Option<CertFault>
+#[tactic(auto, unfolding(crate::specs::Valid::first_output))]
+fn first_output<const N: usize>(c: &Cert, l: &Lists<N>, m: &Loop<N>) -> Option<CertFault>
     requires size { (N ≡ 3) ⊎ (N ≡ 5) }
     requires numbers { AreNumbers c.now }
     requires lists { AreLists l.now }
     requires small { IsSmallLoop m.now }
-    ensures value { result ≡ first_shape c.now l.now m.now spans }
-    ensures sound { result ≡ None → IsSoundLoop c.now l.now m.now }
-    ensures spans { result ≡ None → spans ≡ None }
+    ensures value { result ≡ first_output c.now l.now m.now }
+    ensures surge { result ≡ None → BoundsOutput c.now l.now m.now.surge.output 0 }
+    ensures surge_clamped { result ≡ None → BoundsOutput c.now l.now m.now.surge.clamped_output 0 }
+    ensures sway { result ≡ None → BoundsOutput c.now l.now m.now.sway.output 1 }
+    ensures sway_clamped { result ≡ None → BoundsOutput c.now l.now m.now.sway.clamped_output 1 }
 {
-    rate_condition(c)
-        .or(form_condition(l))
-        .or(first_vertex(c, l, m))
-        .or(input_condition(c, l, m))
-        .or(round_condition(c, l, m))
-        .or(first_output(c, l, m))
-        .or(spans)
+    let surge = &l.output[0];
+    let sway = &l.output[1];
+    output_condition(c, l, &m.surge.output, 0, 0, &surge[0])
+        .or(output_condition(c, l, &m.surge.clamped_output, 0, 1, second(surge)))
+        .or(output_condition(c, l, &m.sway.output, 1, 0, &sway[0]))
+        .or(output_condition(c, l, &m.sway.clamped_output, 1, 1, second(sway)))
 }
 
-/// The first condition that fails, of a certificate whose numbers are in range.
-#[tactic(auto, unfolding(crate::specs::Valid::list_fault, crate::specs::Valid::width_condition))]
-fn list_fault<const N: usize>(
+// That the form bounds what the demand of an axis follows.
+#[tactic(auto, unfolding(crate::specs::Valid::output_condition))]
+fn output_condition<const N: usize>(
     c: &Cert,
     l: &Lists<N>,
-    m: &Loop<N>,
-    spans: Option<CertFault>,
+    followed: &[i128; N],
+    axis: usize,
+    which: usize,
+    squares: &Squares<N>,
 ) -> Option<CertFault>
     requires size { (N ≡ 3) ⊎ (N ≡ 5) }
+    requires axis { axis < 2 }
     requires numbers { AreNumbers c.now }
     requires lists { AreLists l.now }
-    requires small { IsSmallLoop m.now }
-    ensures value { result ≡ list_fault c.now l.now m.now spans }
-    ensures sound { result ≡ None → IsSoundLoop c.now l.now m.now }
-    ensures spans { result ≡ None → spans ≡ None }
+    requires vector { All (IsWithin (2 ^ 35)) followed.now }
+    requires place { squares.now.list.items ≡ squares_at l.now.output axis which }
+    requires squares { All IsSmallSquare (squares_at l.now.output axis which) }
+    ensures value { result ≡ output_condition c.now l.now followed.now axis which }
+    ensures bounds { result ≡ None → BoundsOutput c.now l.now followed.now axis }
 {
-    match first_shape(c, l, m, spans) {
-        Some(fault) => Some(fault),
-        None => {
-            let coordinate = first_too_wide(c, l)?;
-            Some(CertFault::TooWide { coordinate })
-        }
-    }
+    let short = output_short(&l.p, followed, number_of(&c.g, axis), squares)?;
+    Some(CertFault::OutputNotShown {
+        axis,
+        which,
+        row: short.row,
+        short: short.short,
+    })
 }
 
-fn fault_of_three(g: &Gains, c: &Cert, l: &Lists<3>) -> Option<CertFault>
-    requires observer { IsObserverGains g.now }
-    requires law { IsLawGains g.now }
-    requires numbers { AreNumbers c.now }
-    requires lists { AreLists l.now }
-    ensures value { result ≡ list_fault c.now l.now (loop_three g.now) (first_span l.now) }
-    ensures sound { result ≡ None → IsSoundLoop c.now l.now (loop_three g.now) }
-    ensures bounded { result ≡ None → AreBounded l.now }
+fn second<const N: usize>(lists: &[Squares<N>; 2]) -> &Squares<N>
+    ensures { result.now.list.items ≡ squares_of lists.now 1 }
 {
-    let spans = first_span(l);
-    list_fault(c, l, &loop_three(g), spans)
+    &lists[1]
 }
 
-fn fault_of_five(g: &Gains, c: &Cert, l: &Lists<5>) -> Option<CertFault>
-    requires observer { IsObserverGains g.now }
-    requires law { IsLawGains g.now }
-    requires numbers { AreNumbers c.now }
+#[tactic(auto, unfolding(crate::specs::Valid::first_span))]
+fn first_span(l: &Lists<3>) -> Option<CertFault>
+    requires { AreLists l.now }
+    ensures value { result ≡ first_span l.now }
+    ensures place { result ≡ None → BoundsCoordinate l.now 0 }
+    ensures bias { result ≡ None → BoundsCoordinate l.now 1 }
+    ensures velocity { result ≡ None → BoundsCoordinate l.now 2 }
+{
+    span_condition(l, 0, &l.spans[0])
+        .or(span_condition(l, 1, &l.spans[1]))
+        .or(span_condition(l, 2, &l.spans[2]))
+}
+
+#[tactic(auto, unfolding(crate::specs::Valid::first_span, crate::specs::Valid::first_wave_span))]
+fn first_wave_span(l: &Lists<5>) -> Option<CertFault>
     requires lists { AreLists l.now }
     requires wave { AreWaveSpans l.now }
-    ensures value { result ≡ list_fault c.now l.now (loop_five g.now) (first_wave_span l.now) }
-    ensures sound { result ≡ None → IsSoundLoop c.now l.now (loop_five g.now) }
-    ensures bounded { result ≡ None → AreBounded l.now }
+    ensures value { result ≡ first_wave_span l.now }
+    ensures place { result ≡ None → BoundsCoordinate l.now 0 }
+    ensures bias { result ≡ None → BoundsCoordinate l.now 1 }
+    ensures velocity { result ≡ None → BoundsCoordinate l.now 2 }
+    ensures wave_p { result ≡ None → BoundsCoordinate l.now 3 }
+    ensures wave_q { result ≡ None → BoundsCoordinate l.now 4 }
 {
-    let spans = first_wave_span(l);
-    list_fault(c, l, &loop_five(g), spans)
+    span_condition(l, 0, &l.spans[0])
+        .or(span_condition(l, 1, &l.spans[1]))
+        .or(span_condition(l, 2, &l.spans[2]))
+        .or(span_condition(l, 3, &l.spans[3]))
+        .or(span_condition(l, 4, &l.spans[4]))
 }
 
-/// The first condition that fails, of gains and a certificate whose numbers are in range.
-#[tactic(auto, unfolding(crate::specs::Valid::first_fault))]
-pub(crate) fn first_fault(g: &Gains, c: &Cert) -> Option<CertFault>
-    requires observer { IsObserverGains g.now }
-    requires law { IsLawGains g.now }
-    requires numbers { AreNumbers c.now }
-    requires parts { AreParts c.now.parts }
-    ensures value { result ≡ first_fault g.now c.now }
-    ensures sound { result ≡ None → IsSound g.now c.now }
+// That the form bounds a coordinate.
+#[tactic(auto, unfolding(crate::specs::Valid::span_condition))]
+fn span_condition<const N: usize>(
+    l: &Lists<N>,
+    coordinate: usize,
+    squares: &Squares<N>,
+) -> Option<CertFault>
+    requires size { (N ≡ 3) ⊎ (N ≡ 5) }
+    requires coordinate { coordinate < N }
+    requires lists { AreLists l.now }
+    requires place { squares.now.list.items ≡ squares_of l.now.spans coordinate }
+    requires squares { All IsSmallSquare (squares_of l.now.spans coordinate) }
+    ensures value { result ≡ span_condition l.now coordinate }
+    ensures bounds { result ≡ None → BoundsCoordinate l.now coordinate }
 {
-    match &c.parts {
-        Parts::Three(l) => fault_of_three(g, c, l),
-        Parts::Five(l) => fault_of_five(g, c, l),
-    }
+    let vector = unit(coordinate);
+    let span = number_of(&l.span, coordinate);
+    let short = output_short(&l.p, &vector, span, squares)?;
+    Some(CertFault::SpanNotShown {
+        coordinate,
+        row: short.row,
+        short: short.short,
+    })
 }

@@ -25,9 +25,6 @@ pub struct Loop<const N: usize> {
     pub rounding: [i128; N],
 }
 
-/// One, over the scale.
-pub(crate) const ONE: i64 = 1 << 30;
-
 pub(crate) fn minus(a: i64) -> i128
     requires a { unsigned_abs a ≤ 2 ^ 30 }
     ensures value { result ≡ neg_ℤ a }

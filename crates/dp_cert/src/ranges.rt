@@ -24,76 +24,12 @@ ghost use Rattle.dp_cert.specs.Ranges.{
   yaw_rows,
 };
 
-use crate::loops::ONE;
+use dp_fixed::FULL_SCALE;
 use dp_form::Squares;
 use dp_plant::{Cert, Gains, Lists, Parts, YawGains};
 use std::slice::from_ref;
 
 const SIZE: i64 = 1 << 40;
-
-fn are_within(values: &[i64], low: i64, high: i64) -> bool
-    ensures { result ≡ are_within low high values.now }
-{
-    values.iter().all(|x| low <= *x && *x <= high)
-}
-
-fn are_shares(values: &[i64]) -> bool
-    ensures { result ≡ are_shares values.now }
-{
-    are_within(values, 0, ONE)
-}
-
-fn are_sizes(values: &[i64]) -> bool
-    ensures { result ≡ are_sizes values.now }
-{
-    are_within(values, 0, SIZE)
-}
-
-fn are_small(values: &[i64]) -> bool
-    ensures { result ≡ are_small values.now }
-{
-    are_within(values, -SIZE, SIZE)
-}
-
-fn are_small_entries(row: &[i128]) -> bool
-    ensures { result ≡ are_small row.now }
-{
-    row.iter()
-        .all(|x| -(SIZE as i128) <= *x && *x <= SIZE as i128)
-}
-
-/// Whether every weight is from 0 to 2^40, and every vector within 2^40 of zero.
-fn are_squares<const N: usize>(squares: &Squares<N>) -> bool
-    ensures { result ≡ are_squares squares.now.list.items }
-{
-    for square in squares.list.as_slice() {
-        if !(are_sizes(from_ref(&square.d)) && are_small(&square.l)) {
-            return false;
-        }
-    }
-    true
-}
-
-fn is_small_matrix<const N: usize>(rows: &[[i128; N]; N]) -> bool
-    ensures { result ≡ list_all are_small rows.now }
-{
-    for row in rows {
-        if !are_small_entries(row) {
-            return false;
-        }
-    }
-    true
-}
-
-/// Whether the gains of a wave filter are such as the certificate's parts allow.
-fn are_filter(parts: &Parts, values: &[i64]) -> bool
-    ensures { result ≡ are_filter parts.now values.now }
-{
-    match parts {
-        Parts::Three(_) => are_within(values, 0, 0),
-        Parts::Five(_) => are_within(values, -ONE, ONE),
-    }
-}
 
 /// The first key so far whose value is out of its range.
 #[derive(Drop)]
@@ -113,6 +49,15 @@ impl Unfit {
             None => Unfit { name: Some(name) },
         }
     }
+}
+
+/// The first key whose value is out of its range.
+#[tactic(auto, unfolding(crate::specs::Ranges::first_out))]
+pub(crate) fn first_out(g: &Gains, y: &YawGains, c: &Cert) -> Option<&'static str>
+    ensures { option_map (λ s. s.now) result ≡ first_out g.now y.now c.now }
+{
+    let gains = law(observer(Unfit { name: None }, g), g, &c.parts);
+    parts(numbers(yaw(gains, y), c), &c.parts).name
 }
 
 #[tactic(auto, unfolding(crate::specs::Ranges::observer_rows))]
@@ -152,8 +97,14 @@ fn yaw(first: Unfit, y: &YawGains) -> Unfit
         .key("yaw.kd", are_shares(from_ref(&y.kd)))
         .key("yaw.k3", are_within(from_ref(&y.k3), 0, 1 << 17))
         .key("yaw.k4", are_within(from_ref(&y.k4), 0, 1 << 24))
-        .key("yaw.leak", are_within(from_ref(&y.leak), 1 << 17, ONE))
-        .key("yaw.damp", are_within(from_ref(&y.damp), 1 << 17, ONE))
+        .key(
+            "yaw.leak",
+            are_within(from_ref(&y.leak), 1 << 17, FULL_SCALE),
+        )
+        .key(
+            "yaw.damp",
+            are_within(from_ref(&y.damp), 1 << 17, FULL_SCALE),
+        )
         .key("yaw.bias", are_within(from_ref(&y.bias), 0, 1 << 38))
 }
 
@@ -167,6 +118,24 @@ fn numbers(first: Unfit, c: &Cert) -> Unfit
         .key("cert.b", are_within(from_ref(&c.b), 0, 1 << 50))
         .key("cert.r", are_sizes(from_ref(&c.r)))
         .key("cert.g", are_sizes(&c.g))
+}
+
+fn parts(first: Unfit, parts: &Parts) -> Unfit
+    ensures { option_map (λ s. s.now) result.name
+        ≡ part_out (option_map (λ s. s.now) first.name) parts.now }
+{
+    match parts {
+        Parts::Three(l) => spans(lists(first, l), l),
+        Parts::Five(l) => wave_spans(lists(first, l), l),
+    }
+}
+
+#[tactic(auto, unfolding(crate::specs::Ranges::list_out))]
+fn lists<const N: usize>(first: Unfit, l: &Lists<N>) -> Unfit
+    ensures { option_map (λ s. s.now) result.name
+        ≡ list_out (option_map (λ s. s.now) first.name) l.now }
+{
+    outputs(vertices(form(first, l), l), l)
 }
 
 #[tactic(auto, unfolding(crate::specs::Ranges::form_rows))]
@@ -235,29 +204,66 @@ fn wave_spans(first: Unfit, l: &Lists<5>) -> Unfit
         .key("cert.span4", are_squares(&l.spans[4]))
 }
 
-#[tactic(auto, unfolding(crate::specs::Ranges::list_out))]
-fn lists<const N: usize>(first: Unfit, l: &Lists<N>) -> Unfit
-    ensures { option_map (λ s. s.now) result.name
-        ≡ list_out (option_map (λ s. s.now) first.name) l.now }
-{
-    outputs(vertices(form(first, l), l), l)
-}
-
-fn parts(first: Unfit, parts: &Parts) -> Unfit
-    ensures { option_map (λ s. s.now) result.name
-        ≡ part_out (option_map (λ s. s.now) first.name) parts.now }
+/// Whether the gains of a wave filter are such as the certificate's parts allow.
+fn are_filter(parts: &Parts, values: &[i64]) -> bool
+    ensures { result ≡ are_filter parts.now values.now }
 {
     match parts {
-        Parts::Three(l) => spans(lists(first, l), l),
-        Parts::Five(l) => wave_spans(lists(first, l), l),
+        Parts::Three(_) => are_within(values, 0, 0),
+        Parts::Five(_) => are_within(values, -FULL_SCALE, FULL_SCALE),
     }
 }
 
-/// The first key whose value is out of its range.
-#[tactic(auto, unfolding(crate::specs::Ranges::first_out))]
-pub(crate) fn first_out(g: &Gains, y: &YawGains, c: &Cert) -> Option<&'static str>
-    ensures { option_map (λ s. s.now) result ≡ first_out g.now y.now c.now }
+/// Whether every weight is from 0 to 2^40, and every vector within 2^40 of zero.
+fn are_squares<const N: usize>(squares: &Squares<N>) -> bool
+    ensures { result ≡ are_squares squares.now.list.items }
 {
-    let gains = law(observer(Unfit { name: None }, g), g, &c.parts);
-    parts(numbers(yaw(gains, y), c), &c.parts).name
+    for square in squares.list.as_slice() {
+        if !(are_sizes(from_ref(&square.d)) && are_small(&square.l)) {
+            return false;
+        }
+    }
+    true
+}
+
+fn is_small_matrix<const N: usize>(rows: &[[i128; N]; N]) -> bool
+    ensures { result ≡ list_all are_small rows.now }
+{
+    for row in rows {
+        if !are_small_entries(row) {
+            return false;
+        }
+    }
+    true
+}
+
+fn are_small_entries(row: &[i128]) -> bool
+    ensures { result ≡ are_small row.now }
+{
+    row.iter()
+        .all(|x| -(SIZE as i128) <= *x && *x <= SIZE as i128)
+}
+
+fn are_small(values: &[i64]) -> bool
+    ensures { result ≡ are_small values.now }
+{
+    are_within(values, -SIZE, SIZE)
+}
+
+fn are_sizes(values: &[i64]) -> bool
+    ensures { result ≡ are_sizes values.now }
+{
+    are_within(values, 0, SIZE)
+}
+
+fn are_shares(values: &[i64]) -> bool
+    ensures { result ≡ are_shares values.now }
+{
+    are_within(values, 0, FULL_SCALE)
+}
+
+fn are_within(values: &[i64], low: i64, high: i64) -> bool
+    ensures { result ≡ are_within low high values.now }
+{
+    values.iter().all(|x| low <= *x && *x <= high)
 }

@@ -5,7 +5,6 @@ ghost use Rattle.dp_form.specs.{IsSymmetric};
 
 use super::{Accepted, CertFault, accept};
 use arrayvec::ArrayVec;
-use dp_fixed::root_up;
 use dp_form::{Square, Squares, Sym};
 use dp_plant::{Box3, Cert, Gains, Lists, Parts, RawCase, YawGains};
 use std::process::Abort;
@@ -440,10 +439,4 @@ fn bounds(rt: HostRuntime) {
             [(1789, 44462814), still, abeam, still, abeam, still],
         );
     }
-}
-
-// The least r of the sample certificate: the root of what its form makes of the roundings, rounded up.
-#[test]
-fn least_rounding(rt: HostRuntime) {
-    assert_eq!(rt; root_up(735997884), 27130);
 }

@@ -1,5 +1,5 @@
--- A computer that isn't off has the frames of all cycles.
-use Rattle.std.proofs.Common.{Bool, List, [], Option, Some, None, arith, cond, eqb, false, inl, inr, length, map, refl, slice_set, subst, true, ℕ, ◌+◌, ◌∷◌, ◌≡◌}
+-- A computer that isn't off has the frames of all cycles, and each is of the world's plant.
+use Rattle.std.proofs.Common.{Bool, List, [], Option, Some, None, arith, cond, eqb, false, inl, inr, length, map, refl, slice_set, subst, true, ℕ, ◌+◌, ◌∙◌, ◌∷◌, ◌≡◌}
 use Rattle.std.specs.Prelude.{slice_get}
 use Rattle.dp_core.proofs.Lists.{map-at, set-at}
 use Rattle.dp_machine.specs.Step.{Step, step_of}
@@ -8,6 +8,7 @@ use Rattle.dp_core.specs.ComputerState.{ComputerState, Control, InControl, Switc
 use Rattle.dp_core.specs.WorldView.{IsInStep}
 use Rattle.dp_plant.specs.declared.frames.Frame.{Frame}
 use Rattle.dp_plant.specs.declared.place.Place.{Place}
+use Rattle.dp_plant.specs.declared.plant.Plant.{Plant}
 
 wire_in-step : (n : ℕ) (x : ComputerState) (f : Frame) (c : Control) → x.control ≡ c → IsInStep n x → IsInStep (n + 1) (wire_in x f c)
 unfolding wire_in
@@ -57,10 +58,62 @@ pub skew-in_step : (n : ℕ) (x : ComputerState) (at : Place) → IsInStep n x �
 unfolding after_skew
 skew-in_step n x at s = skew_in-in_step n x at x.control refl s
 
--- one of the computers changed, and stays in step
-pub one-in_step : (xs : List ComputerState) (n k : ℕ) (x y : ComputerState) → ((c : ℕ) (z : ComputerState) → slice_get xs c ≡ Some z → IsInStep n z) → slice_get xs k ≡ Some x → (IsInStep n x → IsInStep n y) → (c : ℕ) (z : ComputerState) → slice_get (slice_set xs k y) c ≡ Some z → IsInStep n z
-one-in_step xs n k x y all at keeps c z e = elim (set-at xs k c y z e) [
-  | inl u ↦ subst (IsInStep n) u.1 (keeps (all k x at))
+-- ---- the plant stays
+
+wire_in-plant : (x : ComputerState) (f : Frame) (c : Control) → (wire_in x f c).plant ≡ x.plant
+unfolding wire_in
+wire_in-plant x f SwitchedOff = refl
+wire_in-plant x f ToAlign = refl
+wire_in-plant x f (InControl state) = by (eqb (length x.waits) 16)
+  where
+    by : (b : Bool) → (cond b (with_overrun x f) (with_frame x f)).plant ≡ x.plant
+    by true = refl
+    by false = refl
+
+wire-plant : (x : ComputerState) (f : Frame) → (after_wire x f).plant ≡ x.plant
+unfolding after_wire
+wire-plant x f = wire_in-plant x f x.control
+
+after_step-plant : (x : ComputerState) (fs : List Frame) (o : Option Step) → (after_step x fs o).plant ≡ x.plant
+unfolding after_step
+after_step-plant x fs (Some t) = refl
+after_step-plant x fs None = refl
+
+oldest-plant : (x : ComputerState) (state : State) (fs : List Frame) → (run_over_oldest x state fs).plant ≡ x.plant
+unfolding run_over_oldest
+oldest-plant x state [] = refl
+oldest-plant x state (f ∷ fs) = after_step-plant x fs (step_of x.plant state f)
+
+run_in-plant : (x : ComputerState) (c : Control) → (run_in x c).plant ≡ x.plant
+unfolding run_in
+run_in-plant x (InControl state) = oldest-plant x state x.waits
+run_in-plant x ToAlign = refl
+run_in-plant x SwitchedOff = refl
+
+pub run-plant : (x : ComputerState) → (after_run x).plant ≡ x.plant
+unfolding after_run
+run-plant x = run_in-plant x x.control
+
+pub stop-plant : (x : ComputerState) → (after_stop x).plant ≡ x.plant
+unfolding after_stop
+stop-plant x = refl
+
+skew_in-plant : (x : ComputerState) (at : Place) (c : Control) → (skew_in x at c).plant ≡ x.plant
+unfolding skew_in
+skew_in-plant x at (InControl state) = refl
+skew_in-plant x at ToAlign = refl
+skew_in-plant x at SwitchedOff = refl
+
+pub skew-plant : (x : ComputerState) (at : Place) → (after_skew x at).plant ≡ x.plant
+unfolding after_skew
+skew-plant x at = skew_in-plant x at x.control
+
+-- ---- all of them
+
+-- one of the computers changed, and what holds of all still does
+pub one-keeps : (P : ComputerState → Type 0) (xs : List ComputerState) (k : ℕ) (x y : ComputerState) → ((c : ℕ) (z : ComputerState) → slice_get xs c ≡ Some z → P z) → slice_get xs k ≡ Some x → (P x → P y) → (c : ℕ) (z : ComputerState) → slice_get (slice_set xs k y) c ≡ Some z → P z
+one-keeps P xs k x y all at keeps c z e = elim (set-at xs k c y z e) [
+  | inl u ↦ subst P u.1 (keeps (all k x at))
   | inr u ↦ all c z u.1
 ]
 
@@ -69,3 +122,8 @@ pub all-in_step : (xs : List ComputerState) (n : ℕ) (f : Frame) → ((c : ℕ)
 all-in_step xs n f all c z e =
     let t = map-at xs c (λ x. after_wire x f) z e in
     subst (IsInStep (n + 1)) t.is (wire-in_step n t.before f (all c t.before t.stood))
+
+pub all-of_plant : (xs : List ComputerState) (p : Plant) (f : Frame) → ((c : ℕ) (z : ComputerState) → slice_get xs c ≡ Some z → z.plant ≡ p) → (c : ℕ) (z : ComputerState) → slice_get (map (λ x. after_wire x f) xs) c ≡ Some z → z.plant ≡ p
+all-of_plant xs p f all c z e =
+    let t = map-at xs c (λ x. after_wire x f) z e in
+    subst (λ (x : ComputerState). x.plant ≡ p) t.is (wire-plant t.before f ∙ all c t.before t.stood)

@@ -15,5 +15,5 @@ mod Worlds
 pub mod HistoryLemmas
 pub mod VoteLemmas
 mod Halts
-mod SoundPlants
+mod PlantThrusters
 mod Limits

@@ -2,7 +2,7 @@
 use Rattle.std.proofs.Common.{List, None, Option, Some, [], ap, arith, drop, get_or, inl, inr, length, map, refl, set, slice_set, subst, suc, sym, take, zero, ℕ, ◌++◌, ◌+◌, ◌<◌, ◌∙◌, ◌∷◌, ◌≡◌, ◌≤◌, ◌⊎◌}
 use Rattle.std.proofs.lemmas.List.Edits.{map_over_more}
 use Rattle.std.proofs.lemmas.Option.{slice_get_read}
-use Rattle.std.specs.Prelude.{slice_get}
+use Rattle.std.specs.Prelude.{slice_get, slice_index_or}
 use Rattle.dp_core.specs.WorldState.{change_at, put_at}
 use Rattle.dp_voter.specs.VoterState.{VoterState, begun}
 
@@ -130,3 +130,15 @@ pub get-past : {A : Type 0} (xs : List A) (k : ℕ) → length xs ≤ k → slic
 get-past [] k l = refl
 get-past (x ∷ xs) zero l = absurd (omega arith)
 get-past (x ∷ xs) (suc k) l = get-past xs k (omega arith)
+
+-- of three, the ones behind those that were written
+pub second-kept : {A : Type 0} (P : A → Type 0) (xs : List A) (y d : A) → length xs ≡ 3 → ((c : ℕ) (x : A) → slice_get xs c ≡ Some x → P x) → P (slice_index_or (slice_set xs 0 y) 1 d)
+second-kept P [] y d l all = absurd (omega (arith, l))
+second-kept P (a ∷ []) y d l all = absurd (omega (arith, l))
+second-kept P (a ∷ b ∷ xs) y d l all = all 1 b refl
+
+pub third-kept : {A : Type 0} (P : A → Type 0) (xs : List A) (y z d : A) → length xs ≡ 3 → ((c : ℕ) (x : A) → slice_get xs c ≡ Some x → P x) → P (slice_index_or (slice_set (slice_set xs 0 y) 1 z) 2 d)
+third-kept P [] y z d l all = absurd (omega (arith, l))
+third-kept P (a ∷ []) y z d l all = absurd (omega (arith, l))
+third-kept P (a ∷ b ∷ []) y z d l all = absurd (omega (arith, l))
+third-kept P (a ∷ b ∷ c ∷ xs) y z d l all = all 2 c refl

@@ -6,7 +6,8 @@ use Rattle.std.proofs.lemmas.Bool.{eqb-false}
 use Rattle.std.proofs.lemmas.List.{length-append, length-drop}
 use Rattle.circular_buffer.specs.Buffer.{Buffer, buffer, keep_last}
 use Rattle.dp_plant.specs.declared.frames.Frame.{Frame}
-use Rattle.dp_plant.specs.FrameRanges.{IsFrameWithin}
+use Rattle.dp_plant.specs.declared.plant.Plant.{Plant}
+use Rattle.dp_plant.specs.FrameRanges.{IsFrameInRange}
 use Rattle.circular_buffer.specs.Buffer.{keep_last}
 use Rattle.dp_core.specs.Inside.{AreFrames, IsWaiting}
 
@@ -21,35 +22,35 @@ AreFrames-drop (suc k) n (f ∷ fs) next le are =
     let same : suc n + k ≡ n + suc k = omega arith in
     subst (λ m. AreFrames m (drop k fs) next) same (AreFrames-drop k (suc n) fs next (omega (arith, le)) are.1)
 
-all-push : (fs : List Frame) (f : Frame) → AllByRecursion IsFrameWithin fs → IsFrameWithin f → AllByRecursion IsFrameWithin (fs ++ f ∷ [])
-all-push [] f all is = (is, tt)
-all-push (g ∷ fs) f all is = (all.0, all-push fs f all.1 is)
+all-push : (P : Frame → Type 0) (fs : List Frame) (f : Frame) → AllByRecursion P fs → P f → AllByRecursion P (fs ++ f ∷ [])
+all-push P [] f all is = (is, tt)
+all-push P (g ∷ fs) f all is = (all.0, all-push P fs f all.1 is)
 
-all-drop : (k : ℕ) (fs : List Frame) → AllByRecursion IsFrameWithin fs → AllByRecursion IsFrameWithin (drop k fs)
-all-drop zero fs all = all
-all-drop (suc k) [] all = all
-all-drop (suc k) (f ∷ fs) all = all-drop k fs all.1
+all-drop : (P : Frame → Type 0) (k : ℕ) (fs : List Frame) → AllByRecursion P fs → AllByRecursion P (drop k fs)
+all-drop P zero fs all = all
+all-drop P (suc k) [] all = all
+all-drop P (suc k) (f ∷ fs) all = all-drop P k fs all.1
 
 -- the oldest frame is taken out
-pub IsWaiting-pop : (a b : Buffer Frame) (next : ℕ) → IsWaiting a next → 1 ≤ length a.items → b ≡ buffer (drop 1 a.items) a.capacity → IsWaiting b next
-IsWaiting-pop a b next w le is =
+pub IsWaiting-pop : (g : ℕ) (a b : Buffer Frame) (next : ℕ) → IsWaiting g a next → 1 ≤ length a.items → b ≡ buffer (drop 1 a.items) a.capacity → IsWaiting g b next
+IsWaiting-pop g a b next w le is =
     let len : length (drop 1 a.items) + 1 ≡ length a.items = omega (arith, length-drop 1 a.items) in
     let first : next - length a.items + 1 ≡ next - length (drop 1 a.items) = omega (arith, len, w.enough) in
     let frames : AreFrames (next - length (drop 1 a.items)) (drop 1 a.items) next = subst (λ m. AreFrames m (drop 1 a.items) next) first (AreFrames-drop 1 (next - length a.items) a.items next le w.frames) in
-    let fresh : IsWaiting (buffer (drop 1 a.items) a.capacity) next = record {
+    let fresh : IsWaiting g (buffer (drop 1 a.items) a.capacity) next = record {
       capacity = w.capacity;
       few = omega (arith, len, w.few);
       enough = omega (arith, len, w.enough);
       frames = frames;
-      within = all-drop 1 a.items w.within;
+      within = all-drop (IsFrameInRange g) 1 a.items w.within;
     } in
-    subst (λ (v : Buffer Frame). IsWaiting v next) (sym is) fresh
+    subst (λ (v : Buffer Frame). IsWaiting g v next) (sym is) fresh
 
 -- no frame is left
-pub IsWaiting-clear : (b : Buffer Frame) (next : ℕ) → b ≡ buffer [] 16 → IsWaiting b next
-IsWaiting-clear b next is =
-    let fresh : IsWaiting (buffer [] 16) next = record { capacity = refl; few = omega arith; enough = omega arith; frames = omega arith; within = tt } in
-    subst (λ (v : Buffer Frame). IsWaiting v next) (sym is) fresh
+pub IsWaiting-clear : (g : ℕ) (b : Buffer Frame) (next : ℕ) → b ≡ buffer [] 16 → IsWaiting g b next
+IsWaiting-clear g b next is =
+    let fresh : IsWaiting g (buffer [] 16) next = record { capacity = refl; few = omega arith; enough = omega arith; frames = omega arith; within = tt } in
+    subst (λ (v : Buffer Frame). IsWaiting g v next) (sym is) fresh
 
 -- a wider ring for a moment, which holds one more
 pushed : (n : ℕ) (fs : List Frame) (next : ℕ) (f : Frame) (k : ℕ) → n ≡ next - length fs → length fs ≤ next → AreFrames n fs next → f.cycle ≡ next → k ≤ length (fs ++ f ∷ []) → AreFrames (next + 1 - length (drop k (fs ++ f ∷ []))) (drop k (fs ++ f ∷ [])) (next + 1)
@@ -58,23 +59,23 @@ pushed n fs next f k is enough are cycle le =
     subst (λ m. AreFrames m (drop k (fs ++ f ∷ [])) (next + 1)) first (AreFrames-drop k n (fs ++ f ∷ []) (next + 1) le (AreFrames-push n fs next f are cycle))
 
 -- a frame is put in, behind the others
-pub IsWaiting-push : (a b : Buffer Frame) (next : ℕ) (f : Frame) → IsWaiting a next → f.cycle ≡ next → IsFrameWithin f → b ≡ buffer (keep_last a.capacity (a.items ++ f ∷ [])) a.capacity → IsWaiting b (next + 1)
-IsWaiting-push a b next f w cycle is_within is =
+pub IsWaiting-push : (g : ℕ) (a b : Buffer Frame) (next : ℕ) (f : Frame) → IsWaiting g a next → f.cycle ≡ next → IsFrameInRange g f → b ≡ buffer (keep_last a.capacity (a.items ++ f ∷ [])) a.capacity → IsWaiting g b (next + 1)
+IsWaiting-push g a b next f w cycle is_within is =
     let k = length (a.items ++ f ∷ []) - a.capacity in
     let longer : length (a.items ++ f ∷ []) ≡ length a.items + 1 = omega (arith, length-append a.items (f ∷ [])) in
     let len : length (drop k (a.items ++ f ∷ [])) ≡ length (a.items ++ f ∷ []) - k = omega (arith, length-drop k (a.items ++ f ∷ [])) in
-    let fresh : IsWaiting (buffer (drop k (a.items ++ f ∷ [])) a.capacity) (next + 1) = record {
+    let fresh : IsWaiting g (buffer (drop k (a.items ++ f ∷ [])) a.capacity) (next + 1) = record {
       capacity = w.capacity;
       few = omega (arith, len, longer, w.few, w.capacity);
       enough = omega (arith, len, longer, w.enough);
       frames = pushed (next - length a.items) a.items next f k refl w.enough w.frames cycle (omega arith);
-      within = all-drop k (a.items ++ f ∷ []) (all-push a.items f w.within is_within);
+      within = all-drop (IsFrameInRange g) k (a.items ++ f ∷ []) (all-push (IsFrameInRange g) a.items f w.within is_within);
     } in
-    subst (λ (v : Buffer Frame). IsWaiting v (next + 1)) (sym is) fresh
+    subst (λ (v : Buffer Frame). IsWaiting g v (next + 1)) (sym is) fresh
 
 -- one more waits where there was room
-pub length-push : (a b : Buffer Frame) (next : ℕ) (f : Frame) → IsWaiting a next → length a.items < 16 → b ≡ buffer (keep_last a.capacity (a.items ++ f ∷ [])) a.capacity → length b.items ≡ length a.items + 1
-length-push a b next f w room is =
+pub length-push : (g : ℕ) (a b : Buffer Frame) (next : ℕ) (f : Frame) → IsWaiting g a next → length a.items < 16 → b ≡ buffer (keep_last a.capacity (a.items ++ f ∷ [])) a.capacity → length b.items ≡ length a.items + 1
+length-push g a b next f w room is =
     ap (λ (v : Buffer Frame). length v.items) is ∙ omega (arith, w.capacity, length-append a.items (f ∷ []), length-drop (length (a.items ++ f ∷ []) - a.capacity) (a.items ++ f ∷ []))
 
 prefix_is : (fs : List Frame) (f : Frame) → slice_get fs 0 ≡ Some f → 1 ≤ length fs
@@ -90,22 +91,26 @@ length-pop a b f prefix is =
     let len : length b.items ≡ length (drop 1 a.items) = ap (λ (v : Buffer Frame). length v.items) is in
     omega (arith, len, length-drop 1 a.items, some)
 
-pub not_full : (a : Buffer Frame) (next : ℕ) → IsWaiting a next → false ≡ (length a.items == a.capacity) → length a.items < 16
-not_full a next w full =
+pub not_full : (g : ℕ) (a : Buffer Frame) (next : ℕ) → IsWaiting g a next → false ≡ (length a.items == a.capacity) → length a.items < 16
+not_full g a next w full =
     let ne : length a.items ≢ a.capacity = eqb-false _ _ (sym full) in
     omega (arith, ne, w.few, w.capacity)
 
 -- the oldest frame is the one whose number is that of the frames done
-oldest : (fs : List Frame) (n next : ℕ) (f : Frame) → slice_get fs 0 ≡ Some f → AreFrames n fs next → AllByRecursion IsFrameWithin fs → (f.cycle ≡ n) × IsFrameWithin f
-oldest [] n next f prefix are all = absurd cc
-oldest (g ∷ fs) n next f prefix are all =
-    let same : g ≡ f = cc in
-    (subst (λ (v : Frame). v.cycle ≡ n) same are.0, subst IsFrameWithin same all.0)
+oldest : (g : ℕ) (fs : List Frame) (n next : ℕ) (f : Frame) → slice_get fs 0 ≡ Some f → AreFrames n fs next → AllByRecursion (IsFrameInRange g) fs → (f.cycle ≡ n) × IsFrameInRange g f
+oldest g [] n next f prefix are all = absurd cc
+oldest g (h ∷ fs) n next f prefix are all =
+    let same : h ≡ f = cc in
+    (subst (λ (v : Frame). v.cycle ≡ n) same are.0, subst (IsFrameInRange g) same all.0)
 
-pub prefix_cycle : (a : Buffer Frame) (next count : ℕ) (f : Frame) → IsWaiting a next → slice_get a.items 0 ≡ Some f → count + length a.items ≡ next → f.cycle ≡ count
-prefix_cycle a next count f w prefix live =
+pub prefix_cycle : (g : ℕ) (a : Buffer Frame) (next count : ℕ) (f : Frame) → IsWaiting g a next → slice_get a.items 0 ≡ Some f → count + length a.items ≡ next → f.cycle ≡ count
+prefix_cycle g a next count f w prefix live =
     let first : next - length a.items ≡ count = omega (arith, live) in
-    (oldest a.items (next - length a.items) next f prefix w.frames w.within).0 ∙ first
+    (oldest g a.items (next - length a.items) next f prefix w.frames w.within).0 ∙ first
 
-pub prefix_within : (a : Buffer Frame) (next : ℕ) (f : Frame) → IsWaiting a next → slice_get a.items 0 ≡ Some f → IsFrameWithin f
-prefix_within a next f w prefix = (oldest a.items (next - length a.items) next f prefix w.frames w.within).1
+pub prefix_within : (g : ℕ) (a : Buffer Frame) (next : ℕ) (f : Frame) → IsWaiting g a next → slice_get a.items 0 ≡ Some f → IsFrameInRange g f
+prefix_within g a next f w prefix = (oldest g a.items (next - length a.items) next f prefix w.frames w.within).1
+
+-- for a plant with as many groups
+pub IsWaiting-same : (p q : Plant) (b : Buffer Frame) (next : ℕ) → q ≡ p → IsWaiting p.groups b next → IsWaiting q.groups b next
+IsWaiting-same p q b next e w = subst (λ (r : Plant). IsWaiting r.groups b next) (sym e) w

@@ -9,6 +9,7 @@ use Rattle.dp_core.proofs.Moments.{moment}
 use Rattle.dp_core.proofs.Trajectories.{frames-kept, within}
 use Rattle.dp_core.proofs.Voters.{IsNoVote, IsOrderOf-order, IsOrderOf-say, answer-represents, ballot-represents, fresh_is_last, voter-begun, voter-first, voter-kept, voter-ordered, voter-voted}
 use Rattle.dp_core.specs.ComputerState.{ComputerState, after_run, after_skew, after_stop, after_wire, first_computer, is_live, mode_of, run_answer, skew_answer, wire_answer}
+use Rattle.dp_core.specs.CycleAlarms.{alarms_in, cycle_alarms}
 use Rattle.dp_core.specs.History.{answer_to_run, answers_to_wire, history, seen_of}
 use Rattle.dp_core.specs.Mode.{cycles_begun, frames}
 use Rattle.dp_core.specs.Moment.{Moment, ballot_at, frame_of, is_order, is_vote, is_wire, saw_taken}
@@ -138,6 +139,10 @@ last-represents es w a a3 r =
     let three = r.three in
     let t = get-below w.computers a (omega arith) in
     ap last_of t.1 ∙ (r.computers a t.0 t.1).last
+
+pub alarms-represent : (es : List Event) (w : WorldState) (a : ℕ) → a < 3 → Represents es w → alarms_in w.cycles_begun (last_of (slice_get w.computers a)) ≡ cycle_alarms a (history w.plant es)
+unfolding cycle_alarms
+alarms-represent es w a less r = ap (λ n. alarms_in n (last_of (slice_get w.computers a))) r.cycles ∙ ap (alarms_in (cycles_begun (history w.plant es))) (last-represents es w a less r)
 
 -- ---- one more event
 
@@ -406,6 +411,16 @@ new-represents p x y z vs ex ey ez ev = rw (ex, ey, ez, ev) (record {
 first-in_step : (p : Plant) → IsInStep 0 (first_computer p)
 unfolding first_computer
 first-in_step p = λ o. refl
+
+first-of_plant : (p : Plant) → (first_computer p).plant ≡ p
+unfolding first_computer
+first-of_plant p = refl
+
+pub new-of_plant : (p q : Plant) (x y z : ComputerState) → q ≡ p → x ≡ first_computer p → y ≡ first_computer p → z ≡ first_computer p → (c : ℕ) (a : ComputerState) → slice_get (x ∷ y ∷ z ∷ []) c ≡ Some a → a.plant ≡ q
+new-of_plant p q x y z eq ex ey ez zero a e = (let same : a ≡ x = cc in ap (λ (w : ComputerState). w.plant) (same ∙ ex) ∙ first-of_plant p ∙ sym eq)
+new-of_plant p q x y z eq ex ey ez (suc zero) a e = (let same : a ≡ y = cc in ap (λ (w : ComputerState). w.plant) (same ∙ ey) ∙ first-of_plant p ∙ sym eq)
+new-of_plant p q x y z eq ex ey ez (suc (suc zero)) a e = (let same : a ≡ z = cc in ap (λ (w : ComputerState). w.plant) (same ∙ ez) ∙ first-of_plant p ∙ sym eq)
+new-of_plant p q x y z eq ex ey ez (suc (suc (suc c))) a e = cc
 
 pub new-in_step : (p : Plant) (x y z : ComputerState) → x ≡ first_computer p → y ≡ first_computer p → z ≡ first_computer p → (c : ℕ) (a : ComputerState) → slice_get (x ∷ y ∷ z ∷ []) c ≡ Some a → IsInStep 0 a
 new-in_step p x y z ex ey ez zero a e = (let same : x ≡ a = cc in subst (IsInStep 0) (sym ex ∙ same) (first-in_step p))

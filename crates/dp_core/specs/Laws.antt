@@ -3,14 +3,13 @@ use Rattle.std.specs.Prelude.{◌≡◌, ◌<◌, ◌-◌, ℕ, ℤ, List, ◌�
 use Rattle.dp_plant.specs.declared.plant.Plant.{Plant}
 use Rattle.dp_plant.specs.declared.voting.Ballot.TheVariants.{Fresh}
 use Rattle.dp_plant.specs.declared.voting.Mode.TheVariants.{Live}
-use Rattle.dp_plant.specs.SoundPlant.{IsSoundPlant}
+use Rattle.dp_alloc.specs.Refusals.{AreAccepted}
 use Rattle.dp_voter.specs.declared.order.Took.TheVariants.{Taken}
 use Rattle.dp_machine.specs.Reference.{force_of, reference_state}
 use Rattle.dp_machine.specs.Run.{own_setpoints}
 use Rattle.dp_core.specs.declared.event.Event.{Event}
 use Rattle.dp_core.specs.declared.event.Event.TheVariants.{Order}
 use Rattle.dp_core.specs.declared.event.Seen.TheVariants.{Sent}
-use Rattle.dp_core.specs.CanGiveDemand.{CanGiveDemand}
 use Rattle.dp_core.specs.Faulty.{AtMostOneFaulty, is_faulty, is_faulty_in_cycle, is_skewed}
 use Rattle.dp_core.specs.History.{history, seen_of}
 use Rattle.dp_core.specs.Mode.{cycles_begun, frames, mode}
@@ -49,11 +48,10 @@ TakenIsOwn = (p : Plant) (es : List Event) (k a : ℕ)
     → seen_of p (history p es) (Order a k) ≡ Sent (Some Taken)
     → (f : ℤ) × (taken_force k a (history p (Order a k ∷ es)) ≡ Some f) × IsOwnForce p k a es f
 
--- where the issues of two computers that aren't faulty in this cycle were delivered in it, the
--- first vote of this cycle is fresh,
--- with the reference run's force
+-- where no case of the plant is refused, and the issues of two computers that aren't faulty in this
+-- cycle were delivered in it, the first vote of this cycle is fresh, with the reference run's force
 abbrev pub TwoHeardAreFresh : Type 0
-TwoHeardAreFresh = (p : Plant) → IsSoundPlant p → CanGiveDemand p
+TwoHeardAreFresh = (p : Plant) → AreAccepted p
     → (es : List Event) → AtMostOneFaulty (history p es)
     → (k a b : ℕ) → a < b → b < 3
     → is_faulty_in_cycle a (history p es) ≡ false → is_faulty_in_cycle b (history p es) ≡ false

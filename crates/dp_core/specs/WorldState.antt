@@ -1,6 +1,6 @@
 -- What a world keeps, and what each event makes of it.
 use Rattle.std.specs.Prelude.{◌≡◌, ℕ, ◌+◌, ◌<◌, ◌^◌, List, map, length, ℤ, Option, Some, None, slice_get, slice_set}
-use Rattle.dp_plant.specs.FrameRanges.{IsFrameWithin}
+use Rattle.dp_plant.specs.FrameRanges.{IsFrameInRange}
 use Rattle.dp_plant.specs.Ranges.{IsVectorWithin}
 use Rattle.dp_plant.specs.declared.plant.Plant.{Plant}
 use Rattle.dp_plant.specs.declared.thrusters.Thruster.{Thruster}
@@ -26,7 +26,7 @@ voter_of t = new_voter t.min t.max
 
 -- the conditions of an event
 abbrev pub IsAllowed : WorldState → Event → Type 0
-IsAllowed w (Wire f) = (f.cycle ≡ w.cycles_begun) × IsFrameWithin f
+IsAllowed w (Wire f) = (f.cycle ≡ w.cycles_begun) × IsFrameInRange w.plant.groups f
 IsAllowed w (Run c) = c < 3
 IsAllowed w (Order a k) = (a < 3) × (k < length w.plant.thrusters.items)
 IsAllowed w (Vote k) = k < length w.plant.thrusters.items

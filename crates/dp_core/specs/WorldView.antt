@@ -22,4 +22,6 @@ pub record IsWorld (w : Inside) : Type 0 where
   pub voters : length w.voters.items ≡ length w.plant.thrusters.items
   pub in_step : (c : ℕ) (x : ComputerState) → slice_get w.computers c ≡ Some x
       → IsInStep w.cycles_begun x
+  pub of_plant : (c : ℕ) (x : ComputerState) → slice_get w.computers c ≡ Some x
+      → x.plant ≡ w.plant
   pub bounded : w.cycles_begun ≤ 2 ^ 20

@@ -1,11 +1,13 @@
 //! One computer of three: it takes in frames, keeps up to 16 of them, and steps over the oldest when it runs.
 ghost use Rattle.std.specs.Prelude.{◌≡◌, ◌≢◌, ◌^◌, IfOk, option_copied};
-ghost use Rattle.dp_plant.specs.{IsFrameWithin, IsSoundPlant, IsVectorWithin};
+ghost use Rattle.dp_plant.specs.{IsFrameInRange, IsVectorWithin};
+ghost use Rattle.dp_machine.specs.{IsAcceptedPlant};
 ghost use Rattle.dp_plant.specs.declared.voting.Mode.TheVariants.{Off};
 ghost use Rattle.dp_core.specs.ComputerState.{after_run, after_skew, after_stop, after_wire, first_computer, mode_of, run_answer, skew_answer, wire_answer};
 
 use crate::{Heard, Issue, Ran};
 use circular_buffer::HeapCircularBuffer;
+use dp_cert::Accepted;
 use dp_machine::Machine;
 use dp_plant::{Frame, Memory, Mode, Place, Plant};
 use std::alloc::Global;
@@ -26,6 +28,11 @@ impl Model for Computer {
 
     ghost Value = { ComputerState };
 
+    ghost use Rattle.std.specs.Coded.{codes};
+    ghost use Rattle.dp_plant.specs.contracts.plant.Plant.{the_row};
+
+    ghost coded = { Prim.hlevel (codes, the_row.coded) };
+
     ghost use Rattle.dp_core.specs.Inside.{computer_state, IsComputer};
 
     ghost view = { computer_state };
@@ -36,11 +43,11 @@ impl Model for Computer {
 impl Computer {
     /// Live, at the plant's first state; it makes room for 16 frames, and no later call takes memory.
     #[tactic(auto, unfolding(crate::specs::ComputerState::first_computer))]
-    pub(crate) fn new(alloc: Global, plant: &Plant) -> Result<Computer, Memory>
-        requires { IsSoundPlant plant.now }
+    pub(crate) fn new(alloc: Global, plant: &Plant, accepted: &Accepted) -> Result<Computer, Memory>
+        requires { IsAcceptedPlant plant.now accepted.now }
         ensures { IfOk result (λ c. c ≡ first_computer plant.now) }
     {
-        let machine = Machine::new(alloc, plant)?;
+        let machine = Machine::new(alloc, plant, accepted)?;
         let Ok(waits) = HeapCircularBuffer::with_capacity(alloc, 16) else {
             return Err(Memory);
         };
@@ -71,7 +78,7 @@ impl Computer {
     #[tactic(auto, unfolding(crate::specs::ComputerState::after_wire, crate::specs::ComputerState::wire_in, crate::specs::ComputerState::wire_answer, crate::specs::ComputerState::wire_answer_in))]
     pub(crate) fn wire(&mut self, f: &Frame) -> Heard
         requires next { mode_of self.old.control ≢ Off → f.now.cycle ≡ self.old.next }
-        requires within { IsFrameWithin f.now }
+        requires within { IsFrameInRange self.old.plant.groups f.now }
         ensures new { self.new ≡ after_wire self.old f.now }
         ensures answer { result ≡ wire_answer self.old }
     {

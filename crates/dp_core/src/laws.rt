@@ -2,7 +2,7 @@
 ghost use Rattle.dp_core.specs.{FreshIsReference, SkewedIsFaulty, TakenIsOwn};
 ghost use Rattle.dp_core.specs.{TrajectoriesAreReference, TwoHeardAreFresh};
 
-use dp_fixed::laws::floor_is_exact;
+use dp_machine::laws::issues_are_within_limits;
 use dp_voter::laws::{fresh_is_right, two_right_are_fresh};
 
 /// With at most one faulty computer in any cycle, each live computer that wasn't skewed since its last break has come to the state of
@@ -28,10 +28,11 @@ pub fn taken_is_own()
     ensures { TakenIsOwn }
 {}
 
-/// Where the issues of two computers that aren't faulty are delivered in a cycle before its vote, its ballot is fresh.
+/// Where no case of the plant is refused ([`dp_alloc::first_refused`]), and the issues of two computers that aren't faulty are delivered
+/// in a cycle before its vote, its ballot is fresh.
 pub fn two_heard_are_fresh()
     ensures { TwoHeardAreFresh }
 {
-    floor_is_exact();
+    issues_are_within_limits();
     two_right_are_fresh();
 }

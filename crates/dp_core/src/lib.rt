@@ -2,8 +2,8 @@
 //!
 //! A [`World`] takes one event at a time, in any order, by a call of the event's kind, or as an [`Event`] by [`World::apply`], which is
 //! answered with what is [`Seen`]. A Wire brings the frame of the next cycle to each computer, and each voter's next cycle begins. A Run
-//! lets one computer step over the oldest frame that it has been given and not done, which gives an [`Issue`]. An Order delivers a computer's last issue to one voter, a Vote asks a voter for the
-//! ballot of this cycle. Skew, Say and Stop are faults: a computer's estimate is put at rest at a false place, a computer orders any
+//! lets one computer step over the oldest frame that it has been given and not done, which gives an [`Issue`]. An Order delivers a
+//! computer's last issue to one voter, a Vote asks a voter for the ballot of this cycle. Skew, Say and Stop are faults: a computer's estimate is put at rest at a false place, a computer orders any
 //! force, a computer is switched off. Nothing is promised of the order of events: frames may wait, orders may get lost.
 //!
 //! No history is stored, and yet the contracts speak of it. `specs/History` looks back over a list of events, the newest first: each
@@ -15,21 +15,21 @@
 //! A computer is faulty from a Skew or a Say of it on, until it breaks: is stopped, diverges or overruns. So a skewed computer counts as
 //! faulty, though its orders are what it believes. [`laws`] says, for every list of events in which at most one computer is faulty in any
 //! cycle, that a live computer that isn't skewed has come to the state of the reference run, one computer alone over all the frames, and
-//! that every fresh ballot is the reference run's force; and, whatever is faulty, whose force it is that a voter takes.
+//! that every fresh ballot is the reference run's force; that two computers that aren't faulty and are heard make a ballot fresh; and,
+//! whatever is faulty, whose force it is that a voter takes. The laws ask nothing of a plant but that none of its cases is refused.
 //!
-//! A plant must be one whose numbers are in range: `IsSoundPlant` of dp_plant. [`built_in`] shows of the built-in plant that its thrusters
-//! can give what is demanded.
+//! [`World::new`] asks that no case of the plant is refused, and for the answer of [`dp_cert::accept`] to the plant's own gains and
+//! certificate. [`World::alarms`] shows what the computers' issues of this cycle warn of.
 #![tactic(auto)]
 
 mod answers;
-pub mod built_in;
 mod computer;
 mod event;
 pub mod laws;
 mod world;
 
 pub use answers::{Heard, Ran};
-pub use dp_machine::{Issue, State};
+pub use dp_machine::{Alarms, Issue, State};
 pub use dp_plant::{Ballot, Mode, Place};
 pub use dp_voter::Took;
 pub use event::{Event, Seen};

@@ -1,13 +1,15 @@
 //! Three computers and a voter for each thruster: what each event does to them.
-ghost use Rattle.std.specs.Prelude.{◌≡◌, ◌<◌, ◌≤ℤ◌, ◌^◌, ℕ, List, [], ◌∷◌, IfOk, map, length, Some, slice_get, option_copied};
+ghost use Rattle.std.specs.Prelude.{◌≡◌, ◌<◌, ◌≤ℤ◌, ◌^◌, ◌==◌, ℕ, suc, List, [], ◌∷◌, IfOk, map, length, Some, slice_get, option_copied};
 ghost use Rattle.std.specs.Option.{option_map};
-ghost use Rattle.dp_plant.specs.{IsFrameWithin, IsSoundPlant, IsVectorWithin};
+ghost use Rattle.dp_plant.specs.{IsFrameInRange, IsVectorWithin};
+ghost use Rattle.dp_machine.specs.{IsAcceptedPlant};
 ghost use Rattle.dp_plant.specs.declared.thrusters.Thruster.{Thruster};
 ghost use Rattle.dp_voter.specs.{answer_of, begun};
 ghost use Rattle.dp_voter.specs.VoterState.{VoterState};
 ghost use Rattle.dp_core.specs.ComputerState.{ComputerState, after_wire, is_live, wire_answer};
 ghost use Rattle.dp_core.specs.WorldState.{last_of, message_by, voter_of};
 ghost use Rattle.dp_core.specs.WorldView.{IsInStep};
+ghost use Rattle.dp_core.specs.CycleAlarms.{alarms_in, cycle_alarms};
 ghost use Rattle.dp_core.specs.Represents.{Represents};
 ghost use Rattle.dp_core.specs.{IsAllowed, after, answer, answer_if, answer_to_run, answers_to_wire};
 ghost use Rattle.dp_core.specs.{ballot, history, last_issue, message_of, mode, seen_of, taken_forces};
@@ -15,8 +17,9 @@ ghost use Rattle.dp_core.specs.declared.event.Event.{Event};
 ghost use Rattle.dp_core.specs.declared.event.Event.TheVariants.{Wire, Run, Order, Vote, Skew, Say, Stop};
 
 use crate::computer::Computer;
-use crate::{Ballot, Event, Heard, Issue, Mode, Place, Ran, Seen, Took};
+use crate::{Alarms, Ballot, Event, Heard, Issue, Mode, Place, Ran, Seen, Took};
 use arrayvec::ArrayVec;
+use dp_cert::Accepted;
 use dp_plant::{Frame, Memory, Plant};
 use dp_voter::Voter;
 use std::alloc::Global;
@@ -36,6 +39,11 @@ impl Model for World {
 
     ghost Value = { WorldState };
 
+    ghost use Rattle.std.specs.Coded.{codes};
+    ghost use Rattle.dp_plant.specs.contracts.plant.Plant.{the_row};
+
+    ghost coded = { Prim.hlevel (codes, the_row.coded) };
+
     ghost use Rattle.dp_core.specs.WorldView.{world_of, IsWorld};
 
     ghost view = { world_of };
@@ -46,14 +54,14 @@ impl Model for World {
 impl World {
     /// Three computers that are live at the plant's first state, and a voter for each thruster, before the first cycle. No later call
     /// takes memory.
-    pub fn new(alloc: Global, plant: &Plant) -> Result<World, Memory>
-        requires { IsSoundPlant plant.now }
+    pub fn new(alloc: Global, plant: &Plant, accepted: &Accepted) -> Result<World, Memory>
+        requires { IsAcceptedPlant plant.now accepted.now }
         ensures plant { IfOk result (λ w. w.plant ≡ plant.now) }
         ensures represents { IfOk result (λ w. Represents [] w) }
     {
-        let first = Computer::new(alloc, plant)?;
-        let second = Computer::new(alloc, plant)?;
-        let third = Computer::new(alloc, plant)?;
+        let first = Computer::new(alloc, plant, accepted)?;
+        let second = Computer::new(alloc, plant, accepted)?;
+        let third = Computer::new(alloc, plant, accepted)?;
         Ok(World {
             plant: plant.copy(),
             computers: [first, second, third],
@@ -93,7 +101,7 @@ impl World {
     /// The frame of the next cycle comes to all computers, and the voters' next cycle begins; what each computer did with it.
     pub fn wire(&mut self, f: &Frame) -> [Heard; 3]
         requires next { f.now.cycle ≡ self.old.cycles_begun }
-        requires within { IsFrameWithin f.now }
+        requires within { IsFrameInRange self.old.plant.groups f.now }
         ensures represents { (es : List Event) → Represents es self.old
             → Represents (Wire f.now ∷ es) self.new }
         ensures answers { (es : List Event) → Represents es self.old
@@ -214,6 +222,29 @@ impl World {
         self.computers[c as usize].last()
     }
 
+    /// What the last issue of each computer warns of, where it is of this cycle.
+    pub fn alarms(&self) -> [Option<Alarms>; 3]
+        ensures { (es : List Event) → Represents es self.now
+            → result ≡ cycle_alarms 0 (history self.now.plant es)
+            ∷ cycle_alarms 1 (history self.now.plant es)
+            ∷ cycle_alarms 2 (history self.now.plant es) ∷ [] }
+    {
+        [self.alarms_of(0), self.alarms_of(1), self.alarms_of(2)]
+    }
+
+    #[tactic(auto, unfolding(crate::specs::CycleAlarms::alarms_in))]
+    fn alarms_of(&self, c: u8) -> Option<Alarms>
+        requires { c < 3 }
+        ensures { result
+            ≡ alarms_in self.now.cycles_begun (last_of (slice_get self.now.computers c)) }
+    {
+        match self.last(c) {
+            None => None,
+            Some(issue) if is_last(issue.cycle, self.cycles_begun) => Some(issue.alarms),
+            Some(_) => None,
+        }
+    }
+
     fn last(&self, c: u8) -> Option<&Issue>
         requires { c < 3 }
         ensures { option_copied result ≡ last_of (slice_get self.now.computers c) }
@@ -247,10 +278,18 @@ impl World {
     }
 }
 
+/// The cycle is the last of so many.
+fn is_last(cycle: u64, cycles: u64) -> bool
+    ensures { result ≡ (cycles == suc cycle) }
+{
+    cycle < cycles && cycles - cycle == 1
+}
+
 fn wire_all(computers: &mut [Computer; 3], f: &Frame) -> [Heard; 3]
     requires in_step { (c : ℕ) (x : ComputerState) → slice_get computers.old c ≡ Some x
         → IsInStep f.now.cycle x }
-    requires within { IsFrameWithin f.now }
+    requires within { (c : ℕ) (x : ComputerState) → slice_get computers.old c ≡ Some x
+        → IsFrameInRange x.plant.groups f.now }
     ensures new { computers.new ≡ map (λ x. after_wire x f.now) computers.old }
     ensures answers { result ≡ map wire_answer computers.old }
 {

@@ -1,7 +1,7 @@
 -- Clamps and the middle of three.
 use Rattle.std.proofs.Common.{◌≡◌, ◌≤◌, ℤ, ◌-ℤ◌, ◌≤ℤ◌, unsigned_abs, arith}
 use Rattle.std.proofs.lemmas.Int.{ints, clamps}
-use Rattle.dp_fixed.specs.Order.{IsBetween, IsMiddle, clamp_of, mid3_of}
+use Rattle.dp_fixed.specs.Order.{IsMiddle, clamp_of, mid3_of}
 
 pub clamp_within : (x lo hi : ℤ) → lo ≤ℤ hi → (lo ≤ℤ clamp_of x lo hi) × (clamp_of x lo hi ≤ℤ hi)
 clamp_within x lo hi le = (omega (arith, ints, clamps), omega (arith, ints, clamps))

@@ -1,5 +1,5 @@
 -- Floors and ceilings, by cases on the sign, and what follows from their two inequalities.
-use Rattle.std.proofs.Common.{◌≡◌, ℕ, zero, suc, arith, ℤ, pos, negsuc, neg_ℤ, ◌+ℤ◌, ◌-ℤ◌, ◌*ℤ◌, ◌≤ℤ◌, ◌<ℤ◌}
+use Rattle.std.proofs.Common.{◌≡◌, arith, ℤ, pos, negsuc, neg_ℤ, ◌+ℤ◌, ◌*ℤ◌, ◌≤ℤ◌, ◌<ℤ◌}
 use Rattle.std.proofs.lemmas.Int.{ints, by_lt_z}
 use Rattle.dp_fixed.proofs.Multiples.{mul_le, negated_product, product_next, product_of_sum, product_turned}
 use Rattle.dp_fixed.specs.Division.{IsCeil, IsFloor, ceil_of, floor_of}

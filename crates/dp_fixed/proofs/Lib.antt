@@ -4,3 +4,4 @@ pub mod Clamps
 pub mod Wraps
 pub mod RootsUp
 pub mod LeastRoots
+pub mod BitLemmas

@@ -1,7 +1,7 @@
 //! Whole-number arithmetic of the controller.
 //!
 //! Every gain, share and sine pair is a whole number over [`Q`], and every rounding is a floor, so that three computers and a
-//! paper proof get the same bits. Each function here answers exactly the value that `specs/` defines over whole numbers without a
+//! calculation by hand get the same bits. Each function here answers exactly the value that `specs/` defines over whole numbers without a
 //! bound, in its whole stated range, and no sum or product on the way overflows. [`laws`] says what the crates above use of these values.
 #![tactic(auto)]
 
@@ -20,3 +20,9 @@ pub use turns::wrap;
 
 /// The scale of gains, shares and sine pairs: 2^30 stands for one.
 pub const Q: i128 = 1 << 30;
+
+/// The same in 64 bits.
+pub const FULL_SCALE: i64 = 1 << 30;
+
+#[cfg(test)]
+mod tests;

@@ -11,15 +11,52 @@ use arrayvec::ArrayVec;
 /// The greatest weight, and the greatest size of a vector's entry.
 const LIMIT: i128 = 1 << 40;
 
-// A number from 0 to 5·2^121, over one above 0.
-fn over(n: i128, d: i128) -> i128
-    requires n_low { pos 0 ≤ℤ n }
-    requires d_low { pos 1 ≤ℤ d }
-    ensures value { result ≡ int_div_euclid n d }
-    ensures low { pos 0 ≤ℤ result }
-    ensures high { (result *ℤ d) ≤ℤ n }
+/// Squares that are made for s, at most one for each row but the last.
+///
+/// Row by row, a square takes from what the squares before it left of s the row's diagonal entry
+/// but for a 256th, and with it most of the rest of the row. There is none for a row whose diagonal
+/// entry is then below 1, nor where a number of the square would pass 2^40. The squares show s
+/// where its form is positive enough: whether they do, [`is_nonneg`](super::is_nonneg) says.
+///
+/// N is 3 or 5, and s is symmetric with entries within ±2^121. Nothing is refused.
+#[tactic(auto, unfolding(crate::specs::Made::made_of))]
+pub fn made<const N: usize>(s: &Sym<N>) -> Squares<N>
+    requires size { (N ≡ 3) ⊎ (N ≡ 5) }
+    requires symmetric { IsSymmetric N s.now.at }
+    requires entries { All (All (IsWithin (2 ^ 121))) s.now.at }
+    ensures value { result.list.items ≡ made_of s.now.at }
+    ensures small { All IsSmallSquare result.list.items }
 {
-    n.div_euclid(d)
+    let mut made = Squares {
+        list: ArrayVec::new(),
+    };
+    for i in 0..N - 1 {
+        if let Some(square) = next_square(s, &made, i) {
+            made.list.push(square);
+        }
+    }
+    made
+}
+
+// The square of row i, by what the squares so far leave.
+#[tactic(auto, unfolding(crate::specs::Made::next_square))]
+fn next_square<const N: usize>(s: &Sym<N>, w: &Squares<N>, i: usize) -> Option<Square<N>>
+    requires i_in { i < N }
+    requires entries { All (All (IsWithin (2 ^ 121))) s.now.at }
+    requires squares { All IsSmallSquare w.now.list.items }
+    ensures value { result ≡ next_square i (residual s.now.at w.now.list.items) }
+    ensures small { IfSome result IsSmallSquare }
+{
+    let p = left_at(s, w, i, i);
+    if p < 1 {
+        return None;
+    }
+    let q = trim(p);
+    let scale = scale_of(q);
+    let weight = weight(q, scale);
+    let d = small(weight)?;
+    let l = vector(s, w, i, weight, scale)?;
+    Some(Square { d, l })
 }
 
 // A diagonal entry less a 256th of it.
@@ -67,58 +104,6 @@ fn weight(q: i128, scale: i128) -> i128
     over(q, scale * scale)
 }
 
-// A number over a step, rounded to the nearest.
-fn nearest(r: i128, step: i128) -> i128
-    requires low { pos 1 ≤ℤ step }
-    requires high { step ≤ℤ pos (5 * 2 ^ 121) }
-    requires number { IsWithin (5 * 2 ^ 121) r }
-    ensures { result ≡ int_div_euclid (r +ℤ int_div_euclid step (pos 2)) step }
-{
-    (r + over(step, 2)).div_euclid(step)
-}
-
-// The product of a weight and a scale.
-fn step_of(d: i128, scale: i128) -> i128
-    requires d { pos 1 ≤ℤ d }
-    requires scale { pos 1 ≤ℤ scale }
-    requires room { (d *ℤ scale) ≤ℤ pos (5 * 2 ^ 121) }
-    ensures value { result ≡ d *ℤ scale }
-    ensures low { pos 1 ≤ℤ result }
-    ensures high { result ≤ℤ pos (5 * 2 ^ 121) }
-{
-    d * scale
-}
-
-// The vector's entry in column j.
-fn part(i: usize, d: i128, scale: i128, j: usize, r: i128) -> i128
-    requires d { pos 1 ≤ℤ d }
-    requires scale { pos 1 ≤ℤ scale }
-    requires room { (d *ℤ scale) ≤ℤ pos (5 * 2 ^ 121) }
-    requires number { IsWithin (5 * 2 ^ 121) r }
-    ensures { result ≡ part i d scale j r }
-{
-    if j < i {
-        0
-    } else if j == i {
-        scale
-    } else {
-        nearest(r, step_of(d, scale))
-    }
-}
-
-// The same number in 64 bits, none where it is past 2^40.
-fn small(z: i128) -> Option<i64>
-    ensures value { result
-        ≡ (if int_le (pos (unsigned_abs z)) (pos (2 ^ 40)) then Some z else None) }
-    ensures size { IfSome result (IsWithin (2 ^ 40)) }
-{
-    if z.unsigned_abs() <= LIMIT.unsigned_abs() {
-        Some(z as i64)
-    } else {
-        None
-    }
-}
-
 // The vector, none where an entry is past 2^40.
 fn vector<const N: usize>(
     s: &Sym<N>,
@@ -144,50 +129,65 @@ fn vector<const N: usize>(
     Some(l)
 }
 
-// The square of row i, by what the squares so far leave.
-#[tactic(auto, unfolding(crate::specs::Made::next_square))]
-fn next_square<const N: usize>(s: &Sym<N>, w: &Squares<N>, i: usize) -> Option<Square<N>>
-    requires i_in { i < N }
-    requires entries { All (All (IsWithin (2 ^ 121))) s.now.at }
-    requires squares { All IsSmallSquare w.now.list.items }
-    ensures value { result ≡ next_square i (residual s.now.at w.now.list.items) }
-    ensures small { IfSome result IsSmallSquare }
+// The same number in 64 bits, none where it is past 2^40.
+fn small(z: i128) -> Option<i64>
+    ensures value { result
+        ≡ (if int_le (pos (unsigned_abs z)) (pos (2 ^ 40)) then Some z else None) }
+    ensures size { IfSome result (IsWithin (2 ^ 40)) }
 {
-    let p = left_at(s, w, i, i);
-    if p < 1 {
-        return None;
+    if z.unsigned_abs() <= LIMIT.unsigned_abs() {
+        Some(z as i64)
+    } else {
+        None
     }
-    let q = trim(p);
-    let scale = scale_of(q);
-    let weight = weight(q, scale);
-    let d = small(weight)?;
-    let l = vector(s, w, i, weight, scale)?;
-    Some(Square { d, l })
 }
 
-/// Squares that are made for s, at most one for each row but the last.
-///
-/// Row by row, a square takes from what the squares before it left of s the row's diagonal entry
-/// but for a 256th, and with it most of the rest of the row. There is none for a row whose diagonal
-/// entry is then below 1, nor where a number of the square would pass 2^40. The squares show s
-/// where its form is positive enough: whether they do, [`is_nonneg`](super::is_nonneg) says.
-///
-/// N is 3 or 5, and s is symmetric with entries within ±2^121. Nothing is refused.
-#[tactic(auto, unfolding(crate::specs::Made::made_of))]
-pub fn made<const N: usize>(s: &Sym<N>) -> Squares<N>
-    requires size { (N ≡ 3) ⊎ (N ≡ 5) }
-    requires symmetric { IsSymmetric N s.now.at }
-    requires entries { All (All (IsWithin (2 ^ 121))) s.now.at }
-    ensures value { result.list.items ≡ made_of s.now.at }
-    ensures small { All IsSmallSquare result.list.items }
+// The vector's entry in column j.
+fn part(i: usize, d: i128, scale: i128, j: usize, r: i128) -> i128
+    requires d { pos 1 ≤ℤ d }
+    requires scale { pos 1 ≤ℤ scale }
+    requires room { (d *ℤ scale) ≤ℤ pos (5 * 2 ^ 121) }
+    requires number { IsWithin (5 * 2 ^ 121) r }
+    ensures { result ≡ part i d scale j r }
 {
-    let mut made = Squares {
-        list: ArrayVec::new(),
-    };
-    for i in 0..N - 1 {
-        if let Some(square) = next_square(s, &made, i) {
-            made.list.push(square);
-        }
+    if j < i {
+        0
+    } else if j == i {
+        scale
+    } else {
+        nearest(r, step_of(d, scale))
     }
-    made
+}
+
+// A number over a step, rounded to the nearest.
+fn nearest(r: i128, step: i128) -> i128
+    requires low { pos 1 ≤ℤ step }
+    requires high { step ≤ℤ pos (5 * 2 ^ 121) }
+    requires number { IsWithin (5 * 2 ^ 121) r }
+    ensures { result ≡ int_div_euclid (r +ℤ int_div_euclid step (pos 2)) step }
+{
+    (r + over(step, 2)).div_euclid(step)
+}
+
+// A number from 0 to 5·2^121, over one above 0.
+fn over(n: i128, d: i128) -> i128
+    requires n_low { pos 0 ≤ℤ n }
+    requires d_low { pos 1 ≤ℤ d }
+    ensures value { result ≡ int_div_euclid n d }
+    ensures low { pos 0 ≤ℤ result }
+    ensures high { (result *ℤ d) ≤ℤ n }
+{
+    n.div_euclid(d)
+}
+
+// The product of a weight and a scale.
+fn step_of(d: i128, scale: i128) -> i128
+    requires d { pos 1 ≤ℤ d }
+    requires scale { pos 1 ≤ℤ scale }
+    requires room { (d *ℤ scale) ≤ℤ pos (5 * 2 ^ 121) }
+    ensures value { result ≡ d *ℤ scale }
+    ensures low { pos 1 ≤ℤ result }
+    ensures high { result ≤ℤ pos (5 * 2 ^ 121) }
+{
+    d * scale
 }

@@ -134,7 +134,7 @@ pub nothing_over : (p : Settings) → frames_so_far p (ended_lines []) ≡ []
 unfolding frames_so_far frames_upto entries good_lines last_cycle
 nothing_over p = rw ended-none
 
-frames-bytes : (p : Settings) (before text : List ℕ) → 0 < p.cycle_ms
+pub frames-bytes : (p : Settings) (before text : List ℕ) → 0 < p.cycle_ms
     → frames_so_far p (ended_lines before) ++ flat_map given (answers_after p before text) ≡ frames_so_far p (ended_lines (before ++ text))
 unfolding answers_after
 frames-bytes p before [] some = append-nil _ ∙ ap (λ t. frames_so_far p (ended_lines t)) (sym (append-nil before))

@@ -16,7 +16,7 @@ use Rattle.dp_frame.specs.Frames.{frame_of}
 use Rattle.dp_frame.specs.Record.{all_lines, cycle_count, ended_lines, entries, first_refusal, last_cycle}
 use Rattle.dp_frame.specs.Feeds.{answer, closed, ending, given, is_closed, is_more, is_told, last_frame, phase_after, told, told_or}
 use Rattle.dp_frame.specs.Cycles.{frames_given, frames_so_far, frames_upto, record_frames, record_length}
-use Rattle.dp_frame.proofs.FinishSteps.{answer-more}
+use Rattle.dp_frame.proofs.FinishSteps.{answer-more, more-is}
 use Rattle.dp_frame.proofs.CycleSteps.{map-range-same, frame_of-cycle, frames-all, given-told, length-frames}
 use Rattle.dp_frame.proofs.Lasting.{lasts, refusal-lasts}
 use Rattle.dp_frame.proofs.TextSteps.{ended-more, all-more}
@@ -44,12 +44,6 @@ record-last p lines = by_refusal (first_refusal p lines) refl
         → record_frames p lines ≡ frames_so_far p lines ++ given (told_or (first_refusal p lines) (last_frame (entries p lines)))
     by_refusal (Some r) is = rw (is, given-told r) (record-refused p lines r is ∙ sym (append-nil _))
     by_refusal None is = rw is (record-going p lines is)
-
-more-is : (a : Feed) → is_more a ≡ true → a ≡ More
-more-is More is = refl
-more-is (Closed frame empty) is = cc
-more-is (Fault line kind) is = cc
-more-is (TooMany line cycle) is = cc
 
 pub given-none : (a : Feed) → is_closed a ≡ false → given a ≡ []
 given-none More is = refl
@@ -242,7 +236,7 @@ same-told (refusal.TooMany line cycle) (refusal.Faulty m k) is = cc
 same-told (refusal.TooMany line cycle) (refusal.TooMany m n) is = cc
 
 -- an answer of a first refused line, or of something else that tells of none
-record Tells (o : Option Refusal) (a : Feed) : Type 0 where
+pub record Tells (o : Option Refusal) (a : Feed) : Type 0 where
   pub whether : is_told a ≡ is_some o
   pub which : (r : Refusal) → a ≡ told r → o ≡ Some r
 
@@ -266,7 +260,7 @@ unfolding last_frame
 last-quiet [] = refl
 last-quiet (e ∷ es) = refl
 
-answer-tells : (p : Settings) (before after : List (List ℕ)) → Tells (first_refusal p after) (answer p before after)
+pub answer-tells : (p : Settings) (before after : List (List ℕ)) → Tells (first_refusal p after) (answer p before after)
 unfolding answer
 answer-tells p before after = tells (first_refusal p after) (closed (entries p before) (entries p after)) (closed-quiet (entries p before) (entries p after))
 

@@ -86,7 +86,7 @@ unfolding answer
 answer-other s t b other none was =
     rw (ended-other t b other, sym was.lines.refusal ∙ none, closed-still (entries s.progress.settings (ended_lines t)))
 
-strip-length : (u : List ℕ) → length u ≤ length (stripped u) + 1
+pub strip-length : (u : List ℕ) → length u ≤ length (stripped u) + 1
 strip-length u = by_test (slice_index u (length u - 1) == 13) refl
   where
     by_test : (v : Bool) → (slice_index u (length u - 1) == 13) ≡ v → length u ≤ length (stripped u) + 1

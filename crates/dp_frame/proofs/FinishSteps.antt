@@ -83,6 +83,12 @@ not_more (Closed frame empty) other = refl
 not_more (Fault line kind) other = refl
 not_more (TooMany line cycle) other = refl
 
+pub more-is : (a : Feed) → is_more a ≡ true → a ≡ More
+more-is More e = refl
+more-is (Closed frame empty) e = absurd cc
+more-is (Fault line kind) e = absurd cc
+more-is (TooMany line cycle) e = absurd cc
+
 told-more : (r : Refusal) → told r ≡ More → ⊥
 told-more (refusal.Faulty line kind) is = cc
 told-more (refusal.TooMany line cycle) is = cc

@@ -10,3 +10,5 @@ pub mod FinishSteps
 pub mod Lasting
 pub mod CycleSteps
 pub mod Endings
+pub mod PieceSteps
+pub mod PieceFrames

@@ -1,10 +1,11 @@
 -- The frames of a record, one for each cycle, and those of them that the answers give.
-use Rattle.std.specs.Prelude.{ℕ, List, [], ◌∷◌, ◌++◌, map, is_some, if◌then◌else◌}
+use Rattle.std.specs.Prelude.{◌≡◌, ℕ, ◌-◌, List, [], ◌∷◌, ◌++◌, length, replicate, map, is_some, if◌then◌else◌}
 use Rattle.std.specs.List.{range_with_len}
 use Rattle.dp_plant.specs.declared.frames.Frame.{Frame}
 use Rattle.dp_frame.specs.declared.entry.Entry.{Entry}
 use Rattle.dp_frame.specs.declared.settings.Settings.{Settings}
 use Rattle.dp_frame.specs.declared.feed.Feed.{Feed}
+use Rattle.dp_frame.specs.declared.feed.Feed.TheVariants.{More}
 use Rattle.dp_frame.specs.declared.feed.Phase.{Phase}
 use Rattle.dp_frame.specs.declared.feed.Phase.TheVariants.{Open, Last, Done}
 use Rattle.dp_frame.specs.Frames.{frame_of}
@@ -41,3 +42,7 @@ unfoldable pub answers_after : Settings → List ℕ → List ℕ → List Feed
 answers_after p before [] = []
 answers_after p before (byte ∷ text) =
     answer_to p before byte ∷ answers_after p (before ++ byte ∷ []) text
+
+-- the last of these bytes is answered so, and those before it bring nothing
+pub record IsAnswered (p : Settings) (before text : List ℕ) (feed : Feed) : Type 0 where
+  pub answers : answers_after p before text ≡ replicate (length text - 1) More ++ feed ∷ []

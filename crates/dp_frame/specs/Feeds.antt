@@ -8,6 +8,8 @@ use Rattle.dp_frame.specs.declared.fault.Refusal.{Refusal}
 use Rattle.dp_frame.specs.declared.fault.Refusal.TheVariants as refusal
 use Rattle.dp_frame.specs.declared.feed.Feed.{Feed}
 use Rattle.dp_frame.specs.declared.feed.Feed.TheVariants.{More, Closed, Fault, TooMany}
+use Rattle.dp_frame.specs.declared.feed.Ended.{Ended}
+use Rattle.dp_frame.specs.declared.feed.Ended.TheVariants.{Nothing, Cycle, Record}
 use Rattle.dp_frame.specs.declared.feed.Phase.{Phase}
 use Rattle.dp_frame.specs.declared.feed.Phase.TheVariants.{Open, Last, Done}
 use Rattle.dp_frame.specs.Frames.{frame_of, no_frame}
@@ -20,6 +22,12 @@ told (refusal.TooMany line cycle) = TooMany line cycle
 abbrev pub told_or : Option Refusal → Feed → Feed
 told_or (Some r) feed = told r
 told_or None feed = feed
+
+-- the answer that tells what came to its end, where this frame was closed last
+abbrev pub feed_of : Frame → Ended → Feed
+feed_of frame Nothing = More
+feed_of frame (Cycle empty) = Closed frame empty
+feed_of frame (Record refusal) = told refusal
 
 -- the frame that comes to its end where the entries grow, with the number of empty ones behind it
 unfoldable pub closed : List Entry → List Entry → Feed

@@ -4,12 +4,13 @@ use Rattle.std.specs.List.{flat_map}
 use Rattle.dp_plant.specs.declared.frames.Frame.{Frame}
 use Rattle.dp_frame.specs.declared.settings.Settings.{Settings}
 use Rattle.dp_frame.specs.declared.fault.Refusal.{Refusal}
+use Rattle.dp_frame.specs.declared.feed.Feed.{Feed}
 use Rattle.dp_frame.specs.declared.feed.Feed.TheVariants.{Closed}
 use Rattle.dp_frame.specs.declared.feed.Phase.{Phase}
 use Rattle.dp_frame.specs.Frames.{frame_of}
 use Rattle.dp_frame.specs.Record.{all_lines, ended_lines, entries, first_refusal, last_cycle}
 use Rattle.dp_frame.specs.Feeds.{answer_to, ending, given, is_closed, is_told, phase_after, told}
-use Rattle.dp_frame.specs.Cycles.{answers_after, frames_given, frames_so_far, record_frames}
+use Rattle.dp_frame.specs.Cycles.{IsAnswered, answers_after, frames_given, frames_so_far, record_frames}
 
 -- a byte adds to the frames that are over just what it is answered
 abbrev pub FeedGives : Type 0
@@ -81,3 +82,14 @@ ToldIsFirst =
     × (answer_to p text byte ≡ told r → first_refusal p (ended_lines (text ++ byte ∷ [])) ≡ Some r)
     × (is_told (ending p text phase) ≡ is_some (first_refusal p (all_lines text)))
     × (ending p text phase ≡ told r → first_refusal p (all_lines text) ≡ Some r)
+
+-- a piece of which only the last byte brings something adds to the frames that are over just those
+-- that its answer gives, and tells of a line just where one can't be taken
+abbrev pub PieceGives : Type 0
+PieceGives =
+    (p : Settings) (text piece : List ℕ) (feed : Feed) → 0 < p.cycle_ms
+    → IsAnswered p text piece feed
+    → (frames_so_far p (ended_lines (text ++ piece))
+    ≡ frames_so_far p (ended_lines text) ++ given feed)
+    × (is_told feed ≡ is_some (first_refusal p (ended_lines (text ++ piece))))
+    × ((r : Refusal) → feed ≡ told r → first_refusal p (ended_lines (text ++ piece)) ≡ Some r)

@@ -19,10 +19,10 @@ pub use Rattle.dp_frame.specs.Wires.{IsWire, numbered, wire_of}
 pub use Rattle.dp_frame.specs.Contents.{content_by, content_of, kind_of}
 pub use Rattle.dp_frame.specs.Line.{judge, judge_rest, judge_time, judge_wire, name_len, number_of, time_len}
 pub use Rattle.dp_frame.specs.Record.{all_lines, ended_lines, entries, first_refusal, last_cycle}
-pub use Rattle.dp_frame.specs.Feeds.{ClosesCycle, answer, answer_to, calls_left, closed, ending, given, is_closed, last_frame, phase_after, told}
+pub use Rattle.dp_frame.specs.Feeds.{ClosesCycle, answer, answer_to, calls_left, closed, ending, feed_of, given, is_closed, last_frame, phase_after, told}
 pub use Rattle.dp_frame.specs.Progresses.{Follows, IsReadable, IsSoundProgress, ProgressRepresents}
 pub use Rattle.dp_frame.specs.LinesState.{IsSoundState}
 pub use Rattle.dp_frame.specs.Represents.{IsOpen, RepresentsWhole, settings_of}
-pub use Rattle.dp_frame.specs.Cycles.{frames_so_far, record_frames}
-pub use Rattle.dp_frame.specs.Laws.{AnswersGive, ClosedIsNext, FeedGives, FinishGives, FinishGivesAll, FramesLast, PrefixOfRecord, RefusalLasts, ToldIsFirst}
-pub use Rattle.dp_frame.specs.Ranges.{IsContentWithin, IsEntryWithin, IsFeedInRange, IsFrameInRange, IsJudgedWithin}
+pub use Rattle.dp_frame.specs.Cycles.{IsAnswered, frames_so_far, record_frames}
+pub use Rattle.dp_frame.specs.Laws.{AnswersGive, ClosedIsNext, FeedGives, FinishGives, FinishGivesAll, FramesLast, PieceGives, PrefixOfRecord, RefusalLasts, ToldIsFirst}
+pub use Rattle.dp_frame.specs.Ranges.{IsContentWithin, IsEntryWithin, IsFeedInRange, IsJudgedWithin}

@@ -4,7 +4,7 @@ use Rattle.dp_frame.specs.declared.progress.Progress.{Progress}
 use Rattle.dp_frame.specs.declared.entry.Entry.{Entry}
 use Rattle.dp_frame.specs.declared.settings.Settings.{Settings}
 use Rattle.dp_frame.specs.Frames.{frame_of, IsFrameBounded, IsBefore}
-use Rattle.dp_frame.specs.Ranges.{IsFrameInRange}
+use Rattle.dp_plant.specs.FrameRanges.{IsFrameInRange}
 use Rattle.dp_frame.specs.Record.{entries, first_refusal, is_begun, last_cycle, last_time}
 
 -- while every line was taken: their number, the last time, whether one wasn't empty, and the frame

@@ -1,8 +1,7 @@
 -- The ranges of what the lines of a record bring.
-use Rattle.std.specs.Prelude.{◌≡◌, ℕ, ◌+◌, ◌<◌, ◌^◌, ⊤, All, drop, None}
-use Rattle.dp_plant.specs.declared.frames.Frame.{Frame}
+use Rattle.std.specs.Prelude.{ℕ, ◌+◌, ◌<◌, ◌^◌, ⊤}
 use Rattle.dp_plant.specs.Ranges.{IsVectorWithin}
-use Rattle.dp_plant.specs.FrameRanges.{IsFrameWithin, IsGustWithin}
+use Rattle.dp_plant.specs.FrameRanges.{IsFrameInRange, IsGustWithin}
 use Rattle.dp_frame.specs.declared.entry.Entry.{Entry}
 use Rattle.dp_frame.specs.declared.entry.Judged.{Judged}
 use Rattle.dp_frame.specs.declared.entry.Judged.TheVariants.{Good}
@@ -27,11 +26,6 @@ pub record IsEntryWithin (groups : ℕ) (e : Entry) : Type 0 where
 abbrev pub IsJudgedWithin : ℕ → Judged → Type 0
 IsJudgedWithin groups (Good e) = IsEntryWithin groups e
 IsJudgedWithin groups other = ⊤
-
--- what a computer reads is in range, and no group beyond the plant's reports
-pub record IsFrameInRange (groups : ℕ) (f : Frame) : Type 0 where
-  pub within : IsFrameWithin f
-  pub lacking : All (λ s. s.last ≡ None) (drop groups f.group)
 
 -- the frames that an answer gives are in range
 abbrev pub IsFeedInRange : ℕ → Feed → Type 0

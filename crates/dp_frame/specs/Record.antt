@@ -2,7 +2,7 @@
 -- so that those before one are a
 -- list's rest.
 use Rattle.std.specs.Prelude.{ℕ, ◌+◌, List, [], ◌∷◌, Bool, true, false, ◌==◌, is_some, if◌then◌else◌, Option, Some, None, length, reverse}
-use Rattle.std.specs.List.{slice_split, filter_map}
+use Rattle.std.specs.List.{slice_split, filter_map, position_or_len}
 use Rattle.std.specs.Option.{option_or}
 use Rattle.dp_text.specs.Lines.{is_newline, lines_of}
 use Rattle.dp_frame.specs.declared.entry.Entry.{Entry}
@@ -25,6 +25,10 @@ abbrev pub last_piece : List (List ℕ) → List ℕ
 last_piece [] = []
 last_piece (x ∷ []) = x
 last_piece (x ∷ y ∷ more) = last_piece (y ∷ more)
+
+-- how many bytes come before the next line feed, or the end
+abbrev pub line_len : List ℕ → ℕ
+line_len text = position_or_len is_newline text
 
 -- what stands after the last line feed
 unfoldable pub unfinished_line : List ℕ → List ℕ

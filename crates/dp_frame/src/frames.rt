@@ -1,7 +1,8 @@
 //! Frames: what each wire brought in one cycle.
 ghost use Rattle.std.specs.Prelude.{◌≡◌, ◌<◌, ◌^◌, ◌-◌, ◌+◌, List, ◌∷◌, ℕ};
 ghost use Rattle.dp_frame.specs.declared.entry.Entry.{Entry};
-ghost use Rattle.dp_frame.specs.{IsEntryWithin, IsFrameBounded, IsFrameInRange, IsWire, counted_slot, frame_of, no_frame, no_slot};
+ghost use Rattle.dp_plant.specs.{IsFrameInRange};
+ghost use Rattle.dp_frame.specs.{IsEntryWithin, IsFrameBounded, IsWire, counted_slot, frame_of, no_frame, no_slot};
 
 use crate::entry::{Brought, Entry};
 use dp_plant::{Frame, Slot, Wire};

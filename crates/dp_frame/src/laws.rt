@@ -1,5 +1,5 @@
 //! What holds of every record: each function's contract is the law.
-ghost use Rattle.dp_frame.specs.{AnswersGive, ClosedIsNext, FeedGives, FinishGives, FinishGivesAll, FramesLast, PrefixOfRecord, RefusalLasts, ToldIsFirst};
+ghost use Rattle.dp_frame.specs.{AnswersGive, ClosedIsNext, FeedGives, FinishGives, FinishGivesAll, FramesLast, PieceGives, PrefixOfRecord, RefusalLasts, ToldIsFirst};
 
 /// Each byte adds to the frames that are over just those that it is answered: the frame that it closes and the empty ones behind it.
 pub fn feed_gives()
@@ -9,6 +9,11 @@ pub fn feed_gives()
 /// Over any list of bytes the frames that the answers give are the record's, in order, up to the first line that can't be taken.
 pub fn answers_give()
     ensures { AnswersGive }
+{}
+
+/// A piece whose last byte alone brings something adds to the frames that are over just those that its answer gives.
+pub fn piece_gives()
+    ensures { PieceGives }
 {}
 
 /// Each call of `finish` adds to the frames given just those that it answers.

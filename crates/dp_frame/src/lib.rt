@@ -1,4 +1,4 @@
-//! A record of sensor lines, read byte by byte into frames, and the local frame that places are read in.
+//! A record of sensor lines, read piece by piece or byte by byte into frames, and the local frame that places are read in.
 //!
 //! A record is a text of lines `TIME WIRE REST`, the parts separated by one space, with times in milliseconds that never fall. A line
 //! ends with a line feed, and a carriage return before it is dropped; a last line without a line feed is a line as it stands. An empty
@@ -11,8 +11,8 @@
 //! ```
 //!
 //! The wires are pos0 to pos2, gyro0 to gyro2, wind0 to wind2, and grp0 on for the plant's groups. What stands after the wire is a plain form
-//! where it begins with `L` or `G` ([`dp_nav::plain`]), and else a sentence ([`dp_sentence::read`], [`dp_nav::sensed`]). A line that is no
-//! sentence is damage of its wire; a sound line that gives no reading, or a fix outside the local frame, is skipped.
+//! where it begins with `L` or `G` ([`dp_nav::plain`]), and else a sentence ([`dp_sentence::read_first`], [`dp_nav::sensed_first`]). A line
+//! that is no sentence is damage of its wire; a sound line that gives no reading, or a fix outside the local frame, is skipped.
 //!
 //! Cycle n has the lines with a time of n cycles up to, but not including, n + 1. Its [`dp_plant::Frame`] holds for each wire the last
 //! reading, the number of damaged lines and the number of skipped ones; one wire's lines never count on another. A cycle without lines
@@ -34,6 +34,7 @@
 //! all good lines (`Record`, `Line`, `Frames`). A [`Lines`] keeps no text but the first 193 bytes of the line that hasn't ended; it
 //! represents a text where what it keeps is what the definitions say of that text (`Represents`). After [`Lines::new`] it represents the
 //! empty text, after [`Lines::feed`] each text that it represented with this byte behind it, and each answer is the definitions' answer.
+//! [`Lines::feed_piece`] takes many bytes at once, up to the first that brings something, and answers what `feed` would to the last of them.
 //! Closed frames are in range. [`laws`] says what follows: the frames that the answers give are those of the whole record in order, however
 //! it goes on, and the line that is named is the first.
 //!
@@ -56,7 +57,7 @@ mod settings;
 mod wires;
 
 pub use fault::{LineFault, Refusal};
-pub use feed::{Feed, Phase};
+pub use feed::{Ended, Fed, Feed, Phase};
 pub use frames::empty_frame;
 pub use lines::Lines;
 pub use origin::Origin;

@@ -1,18 +1,22 @@
 ghost use Rattle.std.specs.Prelude.{◌≡◌, ◌≢◌, ◌+◌, ◌^◌, ◌<◌, ◌≤◌, ℕ, List, [], ◌∷◌, ◌++◌, None, length, take, true};
 ghost use Rattle.dp_text.specs.{stripped};
-ghost use Rattle.dp_frame.specs.Record.{all_lines, first_refusal};
-ghost use Rattle.dp_frame.specs.Feeds.{answer_to, calls_left, ClosesCycle, ending, given, is_closed, phase_after};
+ghost use Rattle.dp_frame.specs.Record.{all_lines, first_refusal, line_len};
+ghost use Rattle.dp_frame.specs.Cycles.{IsAnswered};
+ghost use Rattle.dp_frame.specs.Feeds.{answer_to, calls_left, ClosesCycle, ending, feed_of, given, is_closed, is_more, phase_after};
 ghost use Rattle.dp_frame.specs.Ranges.{IsFeedInRange};
+ghost use Rattle.dp_plant.specs.declared.frames.Frame.{Frame};
 ghost use Rattle.dp_frame.specs.LocalFrame.{IsOrigin, origin_of};
 ghost use Rattle.dp_frame.specs.Represents.{IsOpen, Represents, RepresentsWhole, settings_of};
 
 use crate::frames::empty_frame;
 use crate::progress::Progress;
 use crate::settings::Settings;
-use crate::{Feed, Origin, Phase};
+use crate::{Ended, Fed, Feed, Origin, Phase};
 use arrayvec::ArrayVec;
 use dp_plant::Plant;
+use dp_text::append;
 use dp_trig::Trig;
+use memchr::memchr;
 use std::marker::Model;
 
 const LINE_FEED: u8 = b'\n';
@@ -50,15 +54,21 @@ fn strip(line: &[u8]) -> &[u8]
     }
 }
 
-/// Keeps the next byte, where there is room.
-fn keep(prefix: &mut ArrayVec<u8, 193>, byte: u8)
+/// How many bytes come before the next line feed, or the end.
+fn line_len(text: &[u8]) -> usize
+    ensures { result ≡ line_len text.now }
+{
+    memchr(LINE_FEED, text).unwrap_or(text.len())
+}
+
+/// Keeps the next bytes of a line, as many as there is room for.
+fn keep(prefix: &mut ArrayVec<u8, 193>, bytes: &[u8])
     ensures kept { length prefix.old.items ≤ 193
-        → prefix.new.items ≡ take 193 (prefix.old.items ++ byte ∷ []) }
+        → prefix.new.items ≡ take 193 (prefix.old.items ++ bytes.now) }
     ensures short { length prefix.old.items ≤ 193 → length prefix.new.items ≤ 193 }
 {
-    if prefix.len() < 193 {
-        prefix.push(byte);
-    }
+    let count = bytes.len().min(prefix.remaining_capacity());
+    append(prefix, &bytes[..count]);
 }
 
 /// The line to judge: one of more than 193 bytes is too long with and without a carriage return.
@@ -70,6 +80,16 @@ fn whole(prefix: &[u8], prefix_len: u64) -> &[u8]
         prefix
     } else {
         strip(prefix)
+    }
+}
+
+/// Nothing comes to its end.
+fn is_nothing(ended: Ended) -> bool
+    ensures { (frame : Frame) → result ≡ is_more (feed_of frame ended) }
+{
+    match ended {
+        Ended::Nothing => true,
+        Ended::Cycle { .. } | Ended::Record(_) => false,
     }
 }
 
@@ -86,6 +106,7 @@ impl Lines {
         ensures open { IsOpen result }
         ensures first { result.progress.kept.cycle ≡ 0 }
     {
+        let kept = empty_frame(0);
         Lines {
             progress: Progress {
                 settings: Settings {
@@ -97,7 +118,8 @@ impl Lines {
                 number: 0,
                 last: 0,
                 begun: false,
-                kept: empty_frame(0),
+                kept,
+                over: kept,
             },
             prefix: ArrayVec::new(),
             prefix_len: 0,
@@ -111,9 +133,9 @@ impl Lines {
     /// - [`Feed::Closed`]: the line that ended is good, isn't empty, and is of a later cycle than the frame that was kept. That frame is
     ///   given, with the number of cycles between, which have no lines. Before the first line the kept frame is that of cycle 0.
     /// - [`Feed::Fault`] and [`Feed::TooMany`]: the line that ended is the first that can't be taken. Every later call answers the same.
-    /// - [`Feed::More`]: neither. Most bytes end no line, and are done with at once.
+    /// - [`Feed::More`]: neither. Most bytes end no line.
     ///
-    /// It may be called until `finish` is, for at most 2^40 bytes.
+    /// It may be called until `finish` is, for at most 2^40 bytes. [`Lines::feed_piece`] takes many bytes at once.
     pub fn feed(&mut self, byte: u8) -> Feed
         requires open { IsOpen self.old }
         requires few { self.old.bytes < 2 ^ 40 }
@@ -132,43 +154,170 @@ impl Lines {
         ensures settings { self.new.progress.settings ≡ self.old.progress.settings }
         ensures open { IsOpen self.new }
     {
-        if let Some(refusal) = self.progress.refusal {
-            self.bytes += 1;
-            return refusal.told();
-        }
-        if byte == LINE_FEED {
-            return self.end_line();
-        }
-        self.bytes += 1;
-        self.prefix_len += 1;
-        keep(&mut self.prefix, byte);
-        Feed::More
+        let (_, ended) = self.take_line(&[byte]);
+        self.feed_of(ended)
     }
 
-    /// Judges the line that a line feed ends, and answers what it brings to an end.
-    fn end_line(&mut self) -> Feed
+    /// Takes the next bytes up to the first that brings something to an end, or all of them, and answers what the last of them brings, as
+    /// `feed` would. Whoever goes on with what is left of the piece, until nothing is, has fed it whole.
+    ///
+    /// The bytes of a line are looked through for its end and copied, and are judged once. It may be called as `feed` may.
+    pub fn feed_piece(&mut self, piece: &[u8]) -> Fed
+        requires open { IsOpen self.old }
+        requires some { 0 < length piece.now }
+        requires few { self.old.bytes + length piece.now ≤ 2 ^ 40 }
+        ensures represents { (text : List ℕ) → Represents self.old text
+            → Represents self.new (text ++ take result.taken piece.now) }
+        ensures answers { (text : List ℕ) → Represents self.old text
+            → IsAnswered self.old.progress.settings text (take result.taken piece.now) result.feed }
+        ensures whole { result.feed ≡ Feed.More → result.taken ≡ length piece.now }
+        ensures some { 0 < result.taken }
+        ensures within { result.taken ≤ length piece.now }
+
+        // As for `feed`.
+        ensures range { IsFeedInRange self.old.progress.settings.groups result.feed }
+        ensures closes { ClosesCycle self.old.progress.kept.cycle result.feed }
+        ensures next { self.new.progress.kept.cycle
+            ≡ self.old.progress.kept.cycle + length (given result.feed) }
+
+        ensures bytes { self.new.bytes ≡ self.old.bytes + result.taken }
+        ensures settings { self.new.progress.settings ≡ self.old.progress.settings }
+        ensures open { IsOpen self.new }
+    {
+        let mut taken = 0;
+        while taken < piece.len() {
+            let (count, ended) = self.take_line(&piece[taken..]);
+            taken += count;
+            if !is_nothing(ended) {
+                return Fed {
+                    taken,
+                    feed: self.feed_of(ended),
+                };
+            }
+        }
+        Fed {
+            taken,
+            feed: Feed::More,
+        }
+    }
+
+    /// Takes the next bytes up to a line feed, or all of them, and tells how many, and what the last of them brings to its end. After a
+    /// line that can't be taken it takes one byte.
+    fn take_line(&mut self, piece: &[u8]) -> (usize, Ended)
+        requires open { IsOpen self.old }
+        requires some { 0 < length piece.now }
+        requires few { self.old.bytes + length piece.now ≤ 2 ^ 40 }
+        ensures represents { (text : List ℕ) → Represents self.old text
+            → Represents self.new (text ++ take result.0 piece.now) }
+        ensures answers { (text : List ℕ) → Represents self.old text
+            → IsAnswered self.old.progress.settings text (take result.0 piece.now)
+            (feed_of self.new.progress.over result.1) }
+        ensures some { 0 < result.0 }
+        ensures within { result.0 ≤ length piece.now }
+        ensures range { IsFeedInRange self.old.progress.settings.groups
+            (feed_of self.new.progress.over result.1) }
+        ensures closes { ClosesCycle self.old.progress.kept.cycle
+            (feed_of self.new.progress.over result.1) }
+        ensures next { self.new.progress.kept.cycle ≡ self.old.progress.kept.cycle
+            + length (given (feed_of self.new.progress.over result.1)) }
+        ensures bytes { self.new.bytes ≡ self.old.bytes + result.0 }
+        ensures settings { self.new.progress.settings ≡ self.old.progress.settings }
+        ensures open_still { IsOpen self.new }
+    {
+        if let Some(refusal) = self.progress.refusal {
+            self.bytes += 1;
+            return (1, Ended::Record(refusal));
+        }
+        let at = line_len(piece);
+        if at == piece.len() {
+            self.keep_part(piece);
+            return (at, Ended::Nothing);
+        }
+        if self.prefix_len == 0 {
+            return (at + 1, self.take_whole(&piece[..at]));
+        }
+        self.keep_part(&piece[..at]);
+        (at + 1, self.end_line())
+    }
+
+    /// Judges a line of which no part was kept, with the line feed that ends it, and tells what it brings to its end.
+    fn take_whole(&mut self, line: &[u8]) -> Ended
+        requires open { IsOpen self.old }
+        requires few { self.old.bytes + length line.now < 2 ^ 40 }
+        requires going { self.old.progress.refusal ≡ None }
+        requires part { line_len line.now ≡ length line.now }
+        requires fresh { self.old.prefix_len ≡ 0 }
+        ensures represents { (text : List ℕ) → Represents self.old text
+            → Represents self.new ((text ++ line.now) ++ 10 ∷ []) }
+        ensures answer { (text : List ℕ) → Represents self.old text
+            → feed_of self.new.progress.over result
+            ≡ answer_to self.old.progress.settings (text ++ line.now) 10 }
+        ensures range { IsFeedInRange self.old.progress.settings.groups
+            (feed_of self.new.progress.over result) }
+        ensures closes { ClosesCycle self.old.progress.kept.cycle
+            (feed_of self.new.progress.over result) }
+        ensures next { self.new.progress.kept.cycle ≡ self.old.progress.kept.cycle
+            + length (given (feed_of self.new.progress.over result)) }
+        ensures bytes { self.new.bytes ≡ self.old.bytes + length line.now + 1 }
+        ensures settings { self.new.progress.settings ≡ self.old.progress.settings }
+        ensures open_still { IsOpen self.new }
+    {
+        let count = line.len() as u64;
+        self.bytes += count + 1;
+        self.progress.line(whole(line, count))
+    }
+
+    /// Keeps the next bytes of the line that hasn't ended.
+    fn keep_part(&mut self, bytes: &[u8])
+        requires open { IsOpen self.old }
+        requires few { self.old.bytes + length bytes.now ≤ 2 ^ 40 }
+        requires going { self.old.progress.refusal ≡ None }
+        requires part { line_len bytes.now ≡ length bytes.now }
+        ensures represents { (text : List ℕ) → Represents self.old text
+            → Represents self.new (text ++ bytes.now) }
+        ensures progress { self.new.progress ≡ self.old.progress }
+        ensures bytes { self.new.bytes ≡ self.old.bytes + length bytes.now }
+        ensures open_still { IsOpen self.new }
+    {
+        self.bytes += bytes.len() as u64;
+        self.prefix_len += bytes.len() as u64;
+        keep(&mut self.prefix, bytes);
+    }
+
+    /// Judges the line that a line feed ends, and tells what it brings to its end.
+    fn end_line(&mut self) -> Ended
         requires open { IsOpen self.old }
         requires few { self.old.bytes < 2 ^ 40 }
         requires going { self.old.progress.refusal ≡ None }
         ensures represents { (text : List ℕ) → Represents self.old text
             → Represents self.new (text ++ 10 ∷ []) }
         ensures answer { (text : List ℕ) → Represents self.old text
-            → result ≡ answer_to self.old.progress.settings text 10 }
-        ensures range { IsFeedInRange self.old.progress.settings.groups result }
-        ensures closes { ClosesCycle self.old.progress.kept.cycle result }
-        ensures next { self.new.progress.kept.cycle
-            ≡ self.old.progress.kept.cycle + length (given result) }
+            → feed_of self.new.progress.over result
+            ≡ answer_to self.old.progress.settings text 10 }
+        ensures range { IsFeedInRange self.old.progress.settings.groups
+            (feed_of self.new.progress.over result) }
+        ensures closes { ClosesCycle self.old.progress.kept.cycle
+            (feed_of self.new.progress.over result) }
+        ensures next { self.new.progress.kept.cycle ≡ self.old.progress.kept.cycle
+            + length (given (feed_of self.new.progress.over result)) }
         ensures bytes { self.new.bytes ≡ self.old.bytes + 1 }
         ensures settings { self.new.progress.settings ≡ self.old.progress.settings }
         ensures open_still { IsOpen self.new }
     {
         self.bytes += 1;
-        let answer = self
+        let ended = self
             .progress
             .line(whole(self.prefix.as_slice(), self.prefix_len));
         self.prefix.clear();
         self.prefix_len = 0;
-        answer
+        ended
+    }
+
+    /// The answer that tells what came to its end.
+    fn feed_of(&self, ended: Ended) -> Feed
+        ensures { result ≡ feed_of self.now.progress.over ended }
+    {
+        self.progress.feed_of(ended)
     }
 
     /// Answers what is left after the last byte, one thing a call: what the line without a line feed brings to an end, as `feed` would, and
@@ -226,13 +375,13 @@ impl Lines {
             return self.progress.last_frame();
         }
         self.prefix_len = 0;
-        let answer = self.progress.line(self.prefix.as_slice());
-        if let Feed::More = answer {
+        let ended = self.progress.line(self.prefix.as_slice());
+        if is_nothing(ended) {
             self.phase = Phase::Done;
             return self.progress.last_frame();
         }
         self.phase = Phase::Last;
-        answer
+        self.progress.feed_of(ended)
     }
 }
 

@@ -1,18 +1,19 @@
 ghost use Rattle.std.specs.Prelude.{◌≡◌, ◌+◌, ◌-◌, ◌^◌, ◌<◌, ℕ, List, [], ◌∷◌, Some, None, length, false};
-ghost use Rattle.dp_frame.specs.Ranges.{IsEntryWithin, IsFeedInRange, IsFrameInRange};
+ghost use Rattle.dp_plant.specs.{IsFrameInRange};
+ghost use Rattle.dp_frame.specs.Ranges.{IsEntryWithin, IsFeedInRange};
 ghost use Rattle.dp_frame.specs.Wires.{IsWire};
-ghost use Rattle.dp_frame.specs.Frames.{frame_of, IsFrameBounded};
-ghost use Rattle.dp_frame.specs.Feeds.{answer, closed, ClosesCycle, given, is_closed, last_frame, told};
+ghost use Rattle.dp_frame.specs.Frames.{frame_of, no_frame, IsFrameBounded};
+ghost use Rattle.dp_frame.specs.Feeds.{answer, closed, ClosesCycle, feed_of, given, is_closed, last_frame, told};
 ghost use Rattle.dp_frame.specs.Record.{entries, last_cycle};
 ghost use Rattle.dp_frame.specs.declared.entry.Entry.{Entry};
 ghost use Rattle.dp_frame.specs.Progresses.{ProgressRepresents, Follows, IsSoundProgress};
 
-use crate::Feed;
 use crate::entry::{Entry, Judged};
 use crate::fault::Refusal;
 use crate::frames::{empty_frame, note};
 use crate::judging::judge;
 use crate::settings::Settings;
+use crate::{Ended, Feed};
 use dp_plant::Frame;
 
 /// What is kept of the lines so far.
@@ -29,33 +30,44 @@ pub struct Progress {
     pub begun: bool,
     /// The frame of its cycle, or frame 0.
     pub kept: Frame,
+    /// The frame that was closed last.
+    pub over: Frame,
+}
+
+/// Begins the frame of a cycle, and sets the kept one aside.
+fn begin(kept: &mut Frame, over: &mut Frame, cycle: u64)
+    ensures over { over.new ≡ kept.old }
+    ensures kept { kept.new ≡ no_frame cycle }
+    ensures range { cycle < 2 ^ 20 → (groups : ℕ) → IsFrameInRange groups kept.new }
+{
+    *over = *kept;
+    *kept = empty_frame(cycle);
 }
 
 /// Counts an entry to the kept frame, or to the one that it opens.
-fn enter(kept: &mut Frame, entry: &Entry) -> Feed
+fn enter(kept: &mut Frame, over: &mut Frame, entry: &Entry) -> Ended
     requires wire { IsWire 8 entry.now.wire }
     requires room { IsFrameBounded (2 ^ 40 - 1) kept.old }
     ensures kept { (es : List Entry) → kept.old ≡ frame_of (last_cycle es) es → Follows es entry.now
         → kept.new ≡ frame_of entry.now.cycle (entry.now ∷ es) }
     ensures answer { (es : List Entry) → kept.old ≡ frame_of (last_cycle es) es → Follows es entry.now
-        → result ≡ closed es (entry.now ∷ es) }
+        → feed_of over.new result ≡ closed es (entry.now ∷ es) }
     ensures bounded { (n : ℕ) → IsFrameBounded n kept.old → IsFrameBounded (n + 1) kept.new }
     ensures range { (groups : ℕ) → IsFrameInRange groups kept.old → IsEntryWithin groups entry.now
-        → IsFrameInRange groups kept.new × IsFeedInRange groups result }
-    ensures next { kept.new.cycle ≡ kept.old.cycle + length (given result) }
-    ensures closes { ClosesCycle kept.old.cycle result }
+        → IsFrameInRange groups kept.new × IsFeedInRange groups (feed_of over.new result) }
+    ensures next { kept.new.cycle ≡ kept.old.cycle + length (given (feed_of over.new result)) }
+    ensures closes { ClosesCycle kept.old.cycle (feed_of over.new result) }
 {
-    let closed = *kept;
-    if closed.cycle < entry.cycle {
-        *kept = empty_frame(entry.cycle);
+    let cycle = kept.cycle;
+    if cycle < entry.cycle {
+        begin(kept, over, entry.cycle);
         note(kept, entry);
-        Feed::Closed {
-            frame: closed,
-            empty: entry.cycle - closed.cycle - 1,
+        Ended::Cycle {
+            empty: entry.cycle - cycle - 1,
         }
     } else {
         note(kept, entry);
-        Feed::More
+        Ended::Nothing
     }
 }
 
@@ -77,28 +89,30 @@ impl Refusal {
 
 impl Progress {
     /// Judges the next line, and answers what it brings to an end.
-    pub(crate) fn line(&mut self, line: &[u8]) -> Feed
+    pub(crate) fn line(&mut self, line: &[u8]) -> Ended
         requires going { self.old.refusal ≡ None }
         requires sound { IsSoundProgress self.old }
         requires few { self.old.number < 2 ^ 40 }
         ensures represents { (lines : List (List ℕ)) → ProgressRepresents self.old lines
             → ProgressRepresents self.new (line.now ∷ lines) }
         ensures answer { (lines : List (List ℕ)) → ProgressRepresents self.old lines
-            → result ≡ answer self.old.settings lines (line.now ∷ lines) }
-        ensures range { IsFeedInRange self.old.settings.groups result }
-        ensures next { self.new.kept.cycle ≡ self.old.kept.cycle + length (given result) }
-        ensures closes { ClosesCycle self.old.kept.cycle result }
+            → feed_of self.new.over result ≡ answer self.old.settings lines (line.now ∷ lines) }
+        ensures range { IsFeedInRange self.old.settings.groups (feed_of self.new.over result) }
+        ensures next { self.new.kept.cycle
+            ≡ self.old.kept.cycle + length (given (feed_of self.new.over result)) }
+        ensures closes { ClosesCycle self.old.kept.cycle (feed_of self.new.over result) }
+        ensures going { result ≡ Ended.Nothing → self.new.refusal ≡ None }
         ensures sound { IsSoundProgress self.new }
         ensures number { self.new.number ≡ self.old.number + 1 }
         ensures settings { self.new.settings ≡ self.old.settings }
     {
         self.number += 1;
         match judge(&self.settings, self.last, line) {
-            Judged::Blank => Feed::More,
+            Judged::Blank => Ended::Nothing,
             Judged::Good(entry) => {
                 self.last = entry.time;
                 self.begun = true;
-                enter(&mut self.kept, &entry)
+                enter(&mut self.kept, &mut self.over, &entry)
             }
             Judged::Faulty(kind) => self.refuse(Refusal::Faulty {
                 line: self.number,
@@ -108,6 +122,20 @@ impl Progress {
                 line: self.number,
                 cycle,
             }),
+        }
+    }
+
+    /// The answer that tells what came to its end.
+    pub(crate) fn feed_of(&self, ended: Ended) -> Feed
+        ensures { result ≡ feed_of self.now.over ended }
+    {
+        match ended {
+            Ended::Nothing => Feed::More,
+            Ended::Cycle { empty } => Feed::Closed {
+                frame: self.over,
+                empty,
+            },
+            Ended::Record(refusal) => refusal.told(),
         }
     }
 
@@ -129,14 +157,11 @@ impl Progress {
         }
     }
 
-    fn refuse(&mut self, refusal: Refusal) -> Feed
+    fn refuse(&mut self, refusal: Refusal) -> Ended
         ensures refused { self.new ≡ record self.old { refusal = Some refusal } }
-        ensures answer { result ≡ told refusal }
-        ensures gives { given result ≡ [] }
-        ensures range { (groups : ℕ) → IsFeedInRange groups result }
-        ensures closes { (n : ℕ) → ClosesCycle n result }
+        ensures result { result ≡ Ended.Record refusal }
     {
         self.refusal = Some(refusal);
-        refusal.told()
+        Ended::Record(refusal)
     }
 }

@@ -6,8 +6,10 @@ ghost use Rattle.dp_frame.specs.{IsContentWithin, content_by, content_of, kind_o
 use crate::Origin;
 use crate::entry::Content;
 use crate::settings::Settings;
-use dp_nav::{Reading, Skip, WireKind, plain, sensed};
+use arrayvec::ArrayVec;
+use dp_nav::{FIELDS_READ, Reading, Skip, WireKind, plain, sensed_first};
 use dp_plant::{Place, Wire};
+use dp_sentence::read_first;
 
 fn kind_of(wire: Wire) -> WireKind
     ensures { result ≡ kind_of wire }
@@ -59,8 +61,12 @@ pub(crate) fn content(settings: &Settings, wire: Wire, rest: &[u8]) -> Content
     if is_plain(rest) {
         return content_by(&settings.origin, plain(kind, rest));
     }
-    match dp_sentence::read(rest) {
-        Ok(sentence) => content_by(&settings.origin, sensed(kind, &sentence)),
+    let mut fields: ArrayVec<&[u8], FIELDS_READ> = ArrayVec::new();
+    match read_first(rest, &mut fields) {
+        Ok(address) => content_by(
+            &settings.origin,
+            sensed_first(kind, address.formatter, fields.as_slice()),
+        ),
         Err(_) => Content::Damaged,
     }
 }

@@ -49,7 +49,8 @@ fn fused_speed(a: Option<Gust>, b: Option<Gust>, c: Option<Gust>) -> Option<i64>
     requires second { IfSome b IsGust }
     requires third { IfSome c IsGust }
     ensures value { result ≡ fuse (cons_option (option_map weighted_speed a)
-        (cons_option (option_map weighted_speed b) (cons_option (option_map weighted_speed c) []))) }
+        (cons_option (option_map weighted_speed b)
+        (cons_option (option_map weighted_speed c) []))) }
     ensures within { IfSome result IsSpeed }
 {
     fuse(weighted(a), weighted(b), weighted(c))

@@ -13,7 +13,7 @@ use Rattle.dp_reftest.specs.Window.{last_of}
 use Rattle.dp_machine.specs.declared.estimates.Estimates.{Estimates}
 use Rattle.dp_machine.specs.declared.references.References.{References}
 use Rattle.dp_machine.specs.Parts.{AreDemands, AreEstimates, AreReferences, AreTaken}
-use Rattle.dp_machine.specs.Ranges.{IsWholeDemand}
+use Rattle.dp_alloc.specs.Ranges.{IsDemandWithin}
 use Rattle.dp_machine.specs.Step.{limits_at}
 
 same_limits : (t u : Tested) (limits : RefLimits) (next : ℕ) (kept : Kept) → t.limits ≡ limits → u ≡ tested_by t.limits next kept → u.limits ≡ limits
@@ -43,7 +43,7 @@ references_go p n refs after pos are heard = references_set p n (n + 1) refs aft
 last_few : (xs : List (List ℤ)) (demand : List ℤ) (n : ℕ) → length xs ≡ min 60 n → length (last_of 60 (xs ++ demand ∷ [])) ≡ min 60 (n + 1)
 last_few xs demand n few = omega (arith, few, length-append xs (demand ∷ []), length-drop (length (xs ++ demand ∷ []) - 60) (xs ++ demand ∷ []))
 
-all_one : (demand : List ℤ) → IsWholeDemand demand → All IsWholeDemand (demand ∷ [])
+all_one : (demand : List ℤ) → IsDemandWithin demand → All IsDemandWithin (demand ∷ [])
 all_one demand w zero d l = w
 all_one demand w (suc k) d l = absurd (omega (arith, l))
 
@@ -51,23 +51,23 @@ pub last_is : (ring after : Buffer (List ℤ)) (demand : List ℤ) → ring.capa
     → after.items ≡ last_of 60 (ring.items ++ demand ∷ [])
 last_is ring after demand c e = ap (λ (b : Buffer (List ℤ)). b.items) e ∙ ap (λ (k : ℕ). last_of k (ring.items ++ demand ∷ [])) c
 
-pub demands_go : (n : ℕ) (ring after : Buffer (List ℤ)) (demand : List ℤ) → AreDemands n ring → IsWholeDemand demand
+pub demands_go : (n : ℕ) (ring after : Buffer (List ℤ)) (demand : List ℤ) → AreDemands n ring → IsDemandWithin demand
     → after ≡ buffer (keep_last ring.capacity (ring.items ++ demand ∷ [])) ring.capacity → AreDemands (n + 1) after
 demands_go n ring after demand are w e =
     let items = last_is ring after demand are.capacity e in
     record {
       capacity = ap (λ (b : Buffer (List ℤ)). b.capacity) e ∙ are.capacity;
       few = ap length items ∙ last_few ring.items demand n are.few;
-      within = subst (All IsWholeDemand) (sym items)
-          (All-drop IsWholeDemand (length (ring.items ++ demand ∷ []) - 60) (ring.items ++ demand ∷ []) (All-append IsWholeDemand ring.items (demand ∷ []) are.within (all_one demand w)));
+      within = subst (All IsDemandWithin) (sym items)
+          (All-drop IsDemandWithin (length (ring.items ++ demand ∷ []) - 60) (ring.items ++ demand ∷ []) (All-append IsDemandWithin ring.items (demand ∷ []) are.within (all_one demand w)));
     }
 
-pub demands_set : (n : ℕ) (ring after : Buffer (List ℤ)) (items : List (List ℤ)) → ring.capacity ≡ 60 → length items ≡ min 60 n → All IsWholeDemand items
+pub demands_set : (n : ℕ) (ring after : Buffer (List ℤ)) (items : List (List ℤ)) → ring.capacity ≡ 60 → length items ≡ min 60 n → All IsDemandWithin items
     → after ≡ buffer items ring.capacity → AreDemands n after
 demands_set n ring after items c few within e = record {
   capacity = ap (λ (b : Buffer (List ℤ)). b.capacity) e ∙ c;
   few = ap (λ (b : Buffer (List ℤ)). length b.items) e ∙ few;
-  within = subst (λ (b : Buffer (List ℤ)). All IsWholeDemand b.items) (sym e) within;
+  within = subst (λ (b : Buffer (List ℤ)). All IsDemandWithin b.items) (sym e) within;
 }
 
 -- ---- the estimates

@@ -1,8 +1,12 @@
 pub mod Cases
+pub mod Sounds
 pub mod YawRanges
 pub mod Steps
 pub mod OneCycle
 pub mod Inside
 pub mod Values
+pub mod Masks
+pub mod Wires
+pub mod Means
 pub mod Issues
-pub mod BuiltIn
+pub mod IssueLimits

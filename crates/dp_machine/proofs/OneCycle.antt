@@ -1,5 +1,5 @@
 -- The parts of a cycle, put together.
-use Rattle.std.proofs.Common.{◌≡◌, ℕ, List, Option, Some, None, SomeIff, refl, sym, ◌∙◌, ap, subst, ℤ, ◌+ℤ◌}
+use Rattle.std.proofs.Common.{◌≡◌, ℕ, Bool, List, Option, Some, None, SomeIff, refl, sym, ◌∙◌, ap, subst, ℤ, ◌+ℤ◌}
 use Rattle.dp_plant.specs.declared.limits.Setpoint.{Setpoint}
 use Rattle.dp_plant.specs.declared.place.Place.{Place}
 use Rattle.dp_plant.specs.declared.plane.PlaneState.{PlaneState}
@@ -12,10 +12,9 @@ use Rattle.dp_plant.specs.Vectors.{entry}
 use Rattle.dp_plant.specs.Yaw.{YawStep, yaw_next}
 use Rattle.dp_plant.specs.YawRanges.{IsYawWithin}
 use Rattle.dp_machine.specs.declared.estimates.Estimates.{Estimates}
-use Rattle.dp_machine.specs.declared.references.References.{References}
 use Rattle.dp_machine.specs.declared.sensed.Sensed.{Sensed}
-use Rattle.dp_machine.specs.Parts.{estimates_by, joined_estimates, measured_by, plane_cycle, yaw_cycle}
-use Rattle.dp_machine.specs.Step.{plane_by, push_by, whole_demand, yaw_by}
+use Rattle.dp_machine.specs.Parts.{estimates_by, joined_estimates, limited_cycle, plane_cycle, yaw_cycle}
+use Rattle.dp_machine.specs.Step.{limited_by, plane_by, push_by, whole_demand, yaw_by}
 
 -- ---- the next states, by the whole demand
 plane_next_is : (p : Plant) (at : Setpoint) (lost : ℕ) (pair : ℤ × ℤ) (wind : List ℤ) (x : PlaneState) (y : Option Place) (yaw : YawStep)
@@ -36,39 +35,38 @@ joined_is now h (Some a) (Some b) x y k l = ((k.0, l.0), ap (λ (z : PlaneState)
 joined_is now h (Some a) None x y k l = λ both. l both.1
 joined_is now h None q x y k l = λ both. k both.0
 
-module _ (p : Plant) (at : Setpoint) (now : Estimates) (h : Sensed) (pair : ℤ × ℤ) (refs : References) (wind demand : List ℤ)
+module _ (p : Plant) (at : Setpoint) (now : Estimates) (h : Sensed) (pair : ℤ × ℤ) (place : Option Place) (wind demand : List ℤ)
     (pushed : wind ≡ push_by p h.gust)
-    (asked : (y : Option Place) (k : Option ℕ) → demand ≡ whole_demand (plane_by p at now.lost pair wind now.plane y) (yaw_by p at now.lost wind now.yaw k)) where
-  pub cycle_demand : demand ≡ whole_demand (plane_cycle p at now h pair refs) (yaw_cycle p at now h)
+    (asked : (y : Option Place) (k : Option ℕ) → demand ≡ whole_demand (plane_by p at h.lost pair wind now.plane y) (yaw_by p at h.lost wind now.yaw k)) where
+  pub cycle_demand : demand ≡ whole_demand (plane_cycle p at now h pair place) (yaw_cycle p at now h)
   cycle_demand =
-      asked (measured_by p pair refs) h.heading
-      ∙ ap (λ (w : List ℤ). whole_demand (plane_by p at now.lost pair w now.plane (measured_by p pair refs)) (yaw_by p at now.lost w now.yaw h.heading)) pushed
+      asked place h.heading
+      ∙ ap (λ (w : List ℤ). whole_demand (plane_by p at h.lost pair w now.plane place) (yaw_by p at h.lost w now.yaw h.heading)) pushed
 
-  plane_cycle_next : (place : Option Place) → place ≡ measured_by p pair refs
-      → plane_next p.gains now.plane place (push_of demand wind) pair ≡ (plane_cycle p at now h pair refs).next
-  plane_cycle_next place e =
-      let y = measured_by p pair refs in
-      ap (λ (o : Option Place). plane_next p.gains now.plane o (push_of demand wind) pair) e
-      ∙ ap (λ (d : List ℤ). plane_next p.gains now.plane y (push_of d wind) pair) (asked y h.heading)
-      ∙ sym (plane_next_is p at now.lost pair wind now.plane y (yaw_by p at now.lost wind now.yaw h.heading))
-      ∙ ap (λ (w : List ℤ). (plane_by p at now.lost pair w now.plane y).next) pushed
+  pub cycle_limited : (limited : List Bool) → limited ≡ limited_by p at h.lost pair wind now.plane now.yaw → limited ≡ limited_cycle p at now h pair
+  cycle_limited limited e = e ∙ ap (λ (w : List ℤ). limited_by p at h.lost pair w now.plane now.yaw) pushed
+
+  plane_cycle_next : plane_next p.gains now.plane place (push_of demand wind) pair ≡ (plane_cycle p at now h pair place).next
+  plane_cycle_next =
+      ap (λ (d : List ℤ). plane_next p.gains now.plane place (push_of d wind) pair) (asked place h.heading)
+      ∙ sym (plane_next_is p at h.lost pair wind now.plane place (yaw_by p at h.lost wind now.yaw h.heading))
+      ∙ ap (λ (w : List ℤ). (plane_by p at h.lost pair w now.plane place).next) pushed
 
   yaw_cycle_next : yaw_next p.yaw now.yaw h.heading (entry demand 2 +ℤ entry wind 2) ≡ (yaw_cycle p at now h).next
   yaw_cycle_next =
-      let y = measured_by p pair refs in
-      ap (λ (d : List ℤ). yaw_next p.yaw now.yaw h.heading (entry d 2 +ℤ entry wind 2)) (asked y h.heading)
-      ∙ sym (yaw_next_is p at now.lost wind now.yaw h.heading (plane_by p at now.lost pair wind now.plane y))
-      ∙ ap (λ (w : List ℤ). (yaw_by p at now.lost w now.yaw h.heading).next) pushed
+      ap (λ (d : List ℤ). yaw_next p.yaw now.yaw h.heading (entry d 2 +ℤ entry wind 2)) (asked place h.heading)
+      ∙ sym (yaw_next_is p at h.lost wind now.yaw h.heading (plane_by p at h.lost pair wind now.plane place))
+      ∙ ap (λ (w : List ℤ). (yaw_by p at h.lost w now.yaw h.heading).next) pushed
 
-  pub cycle_next : (place : Option Place) (o : Option PlaneState) (q : Option YawState) (next : Option Estimates) → place ≡ measured_by p pair refs
+  pub cycle_next : (o : Option PlaneState) (q : Option YawState) (next : Option Estimates)
       → SomeIff o (IsPlaneWithin (plane_next p.gains now.plane place (push_of demand wind) pair)) (plane_next p.gains now.plane place (push_of demand wind) pair)
       → SomeIff q (IsYawWithin (yaw_next p.yaw now.yaw h.heading (entry demand 2 +ℤ entry wind 2))) (yaw_next p.yaw now.yaw h.heading (entry demand 2 +ℤ entry wind 2))
       → next ≡ joined_estimates now h o q
-      → SomeIff next (IsPlaneWithin (plane_cycle p at now h pair refs).next × IsYawWithin (yaw_cycle p at now h).next) (estimates_by now h (plane_cycle p at now h pair refs).next (yaw_cycle p at now h).next)
-  cycle_next place o q next e k l j =
-      let x = (plane_cycle p at now h pair refs).next in
+      → SomeIff next (IsPlaneWithin (plane_cycle p at now h pair place).next × IsYawWithin (yaw_cycle p at now h).next) (estimates_by now h (plane_cycle p at now h pair place).next (yaw_cycle p at now h).next)
+  cycle_next o q next k l j =
+      let x = (plane_cycle p at now h pair place).next in
       let y = (yaw_cycle p at now h).next in
       subst (λ (n : Option Estimates). SomeIff n (IsPlaneWithin x × IsYawWithin y) (estimates_by now h x y)) (sym j)
       (joined_is now h o q x y
-      (subst (λ (z : PlaneState). SomeIff o (IsPlaneWithin z) z) (plane_cycle_next place e) k)
+      (subst (λ (z : PlaneState). SomeIff o (IsPlaneWithin z) z) plane_cycle_next k)
       (subst (λ (z : YawState). SomeIff q (IsYawWithin z) z) yaw_cycle_next l))

@@ -1,7 +1,8 @@
 -- A cycle made from its parts is the step.
 use Rattle.std.proofs.Common.{◌≡◌, ◌≤◌, ◌^◌, ℕ, ◌+◌, ◌-◌, Bool, true, false, ◌&&◌, cond, leb, List, [], ◌∷◌, ◌++◌, Option, Some, None, SomeIff, unwrap_or, refl, sym, ◌∙◌, ap, subst, arith, ℤ, unsigned_abs}
 use Rattle.std.proofs.lemmas.Bool.Decides.{nat_tests}
-use Rattle.dp_fuse.specs.Places.{fused_place, origins_by}
+use Rattle.dp_consequence.specs.{mean_demand}
+use Rattle.dp_plant.specs.declared.alarms.Alarms.{Alarms}
 use Rattle.dp_plant.specs.declared.frames.Frame.{Frame}
 use Rattle.dp_plant.specs.declared.frames.Slot.{Slot}
 use Rattle.dp_plant.specs.declared.limits.Setpoint.{Setpoint}
@@ -24,8 +25,8 @@ use Rattle.dp_machine.specs.declared.estimates.Estimates.{Estimates}
 use Rattle.dp_machine.specs.declared.references.References.{References}
 use Rattle.dp_machine.specs.declared.sensed.Sensed.{Sensed}
 use Rattle.dp_machine.specs.declared.state.State.{State}
-use Rattle.dp_machine.specs.Parts.{AreReferences, AreTaken, estimates_by, measured_by, plane_cycle, state_by, taken, verdicts_by, yaw_cycle}
-use Rattle.dp_machine.specs.Step.{Step, forces_by, is_near, is_place_near, is_within, limits_at, measured_at, plane_by, plane_in, push_by, sensed_by, sensed_of, step_at, step_by, verdicts_of, whole_demand, yaw_in}
+use Rattle.dp_machine.specs.Parts.{AreReferences, AreTaken, estimates_by, limited_cycle, plane_cycle, state_by, taken, verdicts_by, yaw_cycle}
+use Rattle.dp_machine.specs.Step.{Step, alarms_by, alarms_in, forces_by, is_near, is_place_near, is_within, limited_in, limits_at, measured_at, measured_by, plane_in, sensed_by, sensed_of, step_at, step_by, verdicts_of, whole_demand, yaw_in}
 
 -- ---- the test of the ranges
 both : (a b : Bool) → a ≡ true → b ≡ true → (a && b) ≡ true
@@ -113,13 +114,13 @@ within_false x yaw out = by (is_within x yaw) refl
 -- ---- a state's step, by its ranges
 step_ok : (p : Plant) (at : Setpoint) (s : State) (f : Frame) → IsPlaneWithin (plane_in p at s f (sensed_of s f)).next
     → IsYawWithin (yaw_in p at s (sensed_of s f)).next
-    → step_at p at s f ≡ Some (step_by p s f (sensed_of s f) (whole_demand (plane_in p at s f (sensed_of s f)) (yaw_in p at s (sensed_of s f))) (plane_in p at s f (sensed_of s f)).next (yaw_in p at s (sensed_of s f)).next)
+    → step_at p at s f ≡ Some (step_by p at s f (sensed_of s f) (whole_demand (plane_in p at s f (sensed_of s f)) (yaw_in p at s (sensed_of s f))) (plane_in p at s f (sensed_of s f)).next (yaw_in p at s (sensed_of s f)).next)
 unfolding step_at
 step_ok p at s f plane yaw =
     let h = sensed_of s f in
     let x = plane_in p at s f h in
     let y = yaw_in p at s h in
-    ap (λ (b : Bool). cond b (Some (step_by p s f h (whole_demand x y) x.next y.next)) None) (within_true x.next y.next plane yaw)
+    ap (λ (b : Bool). cond b (Some (step_by p at s f h (whole_demand x y) x.next y.next)) None) (within_true x.next y.next plane yaw)
 
 step_err : (p : Plant) (at : Setpoint) (s : State) (f : Frame)
     → (IsPlaneWithin (plane_in p at s f (sensed_of s f)).next × IsYawWithin (yaw_in p at s (sensed_of s f)).next → ⊥)
@@ -129,7 +130,7 @@ step_err p at s f out =
     let h = sensed_of s f in
     let x = plane_in p at s f h in
     let y = yaw_in p at s h in
-    ap (λ (b : Bool). cond b (Some (step_by p s f h (whole_demand x y) x.next y.next)) None) (within_false x.next y.next out)
+    ap (λ (b : Bool). cond b (Some (step_by p at s f h (whole_demand x y) x.next y.next)) None) (within_false x.next y.next out)
 
 -- ---- the tests of the references after the frame
 verdict_is : (t u : Tested) (limits : RefLimits) (n : ℕ) (slot : Slot Place) → t.limits ≡ limits → u ≡ taken t n slot
@@ -151,87 +152,108 @@ three a b c = a ∷ b ∷ c ∷ []
 three_same : (a b c d e f : Verdict) → a ≡ d → b ≡ e → c ≡ f → (a ∷ b ∷ c ∷ []) ≡ (d ∷ e ∷ f ∷ [])
 three_same a b c d e f x y z = cc
 
+-- ---- what a step is made of
+made : List ℤ → List ℤ → Alarms → List (List ℤ) → Estimates → ℕ → Kept → Kept → Kept → Step
+made demand forces alarms demands e n a b c = record {
+  issue = record { cycle = n; forces = record { items = forces }; demand = demand; alarms = alarms };
+  next = record {
+    count = e.count;
+    plane = e.plane;
+    yaw = e.yaw;
+    heading = e.heading;
+    wind = e.wind;
+    lost = e.lost;
+    samples = a ∷ b ∷ c ∷ [];
+    demands = record { items = demands };
+  };
+}
+
+made_same : (d d' fs fs' : List ℤ) (ws ws' : Alarms) (ds ds' : List (List ℤ)) (e e' : Estimates) (n : ℕ) (a b c a' b' c' : Kept)
+    → d ≡ d' → fs ≡ fs' → ws ≡ ws' → ds ≡ ds' → e ≡ e' → a ≡ a' → b ≡ b' → c ≡ c' → made d fs ws ds e n a b c ≡ made d' fs' ws' ds' e' n a' b' c'
+made_same d d' fs fs' ws ws' ds ds' e e' n a b c a' b' c' h i r j k l m o = cc
+
+alarms_same : (p : Plant) (f : Frame) (vs vs' : List Verdict) (y y' : Option Place) (h h' : Sensed) (bs bs' : List Bool) (ds ds' : List (List ℤ))
+    → vs ≡ vs' → y ≡ y' → h ≡ h' → bs ≡ bs' → ds ≡ ds' → alarms_by p vs f y h bs (mean_demand ds) ≡ alarms_by p vs' f y' h' bs' (mean_demand ds')
+alarms_same p f vs vs' y y' h h' bs bs' ds ds' i j k l m = cc
+
 module _ (p : Plant) (at : Setpoint) (now : Estimates) (refs after : References) (ds : List (List ℤ)) (f : Frame)
-    (are : AreReferences p now.count refs) (heard : AreTaken refs after now.count f.pos) where
-  verdicts_are : verdicts_by after ≡ verdicts_of p (state_by now refs ds) f
-  verdicts_are = three_same _ _ _ _ _ _
+    (are : AreReferences p now.count refs) (heard : AreTaken refs after now.count f.pos)
+    (sensed : Sensed) (pair : ℤ × ℤ) (verdicts : List Verdict) (place : Option Place)
+    (hs : sensed ≡ sensed_by now.heading now.wind now.lost f) (hp : pair ≡ pair_of (unwrap_or sensed.heading now.heading))
+    (hv : verdicts ≡ verdicts_by after) (hy : place ≡ measured_by p pair verdicts) where
+  s : State
+  s = state_by now refs ds
+
+  h : Sensed
+  h = sensed_by now.heading now.wind now.lost f
+
+  verdicts_are : verdicts ≡ verdicts_of p s f
+  unfolding s
+  verdicts_are = hv ∙ three_same _ _ _ _ _ _
       (verdict_is refs.first after.first (limits_at p 0) now.count (slot_of f.pos 0) are.first_limits heard.first)
       (verdict_is refs.second after.second (limits_at p 1) now.count (slot_of f.pos 1) are.second_limits heard.second)
       (verdict_is refs.third after.third (limits_at p 2) now.count (slot_of f.pos 2) are.third_limits heard.third)
 
-  measured_is : (pair : ℤ × ℤ) → measured_by p pair after ≡ measured_at p pair (state_by now refs ds) f
-  unfolding measured_by measured_at
-  measured_is pair = ap (λ (vs : List Verdict). fused_place (origins_by pair p.levers vs)) verdicts_are
+  pair_is : pair ≡ pair_of (unwrap_or h.heading now.heading)
+  unfolding h
+  pair_is = hp ∙ ap (λ (x : Sensed). pair_of (unwrap_or x.heading now.heading)) hs
 
-  plane_is : (sensed : Sensed) (pair : ℤ × ℤ) → sensed ≡ sensed_by now.heading now.wind f → pair ≡ pair_of (unwrap_or sensed.heading now.heading)
-      → plane_cycle p at now sensed pair after ≡ plane_in p at (state_by now refs ds) f (sensed_by now.heading now.wind f)
-  plane_is sensed pair hs hp =
-      let h = sensed_by now.heading now.wind f in
-      let q = pair_of (unwrap_or h.heading now.heading) in
-      let hq : pair ≡ q = hp ∙ ap (λ (x : Sensed). pair_of (unwrap_or x.heading now.heading)) hs in
-      ap (λ (x : Sensed). plane_cycle p at now x pair after) hs
-      ∙ ap (λ (z : ℤ × ℤ). plane_cycle p at now h z after) hq
-      ∙ ap (λ (y : Option Place). plane_by p at now.lost q (push_by p h.gust) now.plane y) (measured_is q)
+  place_is : place ≡ measured_at p (pair_of (unwrap_or h.heading now.heading)) s f
+  place_is =
+      hy ∙ ap (λ (z : ℤ × ℤ). measured_by p z verdicts) pair_is
+      ∙ ap (λ (vs : List Verdict). measured_by p (pair_of (unwrap_or h.heading now.heading)) vs) verdicts_are
 
-  yaw_is : (sensed : Sensed) → sensed ≡ sensed_by now.heading now.wind f → yaw_cycle p at now sensed ≡ yaw_in p at (state_by now refs ds) (sensed_by now.heading now.wind f)
-  yaw_is sensed hs = ap (λ (x : Sensed). yaw_cycle p at now x) hs
+  plane_is : plane_cycle p at now sensed pair place ≡ plane_in p at s f h
+  unfolding s h
+  plane_is =
+      ap (λ (x : Sensed). plane_cycle p at now x pair place) hs
+      ∙ ap (λ (z : ℤ × ℤ). plane_cycle p at now h z place) pair_is
+      ∙ ap (λ (y : Option Place). plane_cycle p at now h (pair_of (unwrap_or h.heading now.heading)) y) place_is
+
+  yaw_is : yaw_cycle p at now sensed ≡ yaw_in p at s h
+  unfolding s h
+  yaw_is = ap (λ (x : Sensed). yaw_cycle p at now x) hs
+
+  limited_is : limited_cycle p at now sensed pair ≡ limited_in p at s h
+  unfolding s h
+  limited_is =
+      ap (λ (x : Sensed). limited_cycle p at now x pair) hs
+      ∙ ap (λ (z : ℤ × ℤ). limited_cycle p at now h z) pair_is
 
   IsNext : Option Estimates → PlaneStep → YawStep → Sensed → Type 0
   IsNext o plane yaw x = SomeIff o (IsPlaneWithin plane.next × IsYawWithin yaw.next) (estimates_by now x plane.next yaw.next)
 
-  next_is : (o : Option Estimates) (sensed : Sensed) (pair : ℤ × ℤ) → sensed ≡ sensed_by now.heading now.wind f → pair ≡ pair_of (unwrap_or sensed.heading now.heading)
-      → SomeIff o (IsPlaneWithin (plane_cycle p at now sensed pair after).next × IsYawWithin (yaw_cycle p at now sensed).next) (estimates_by now sensed (plane_cycle p at now sensed pair after).next (yaw_cycle p at now sensed).next)
-      → IsNext o (plane_in p at (state_by now refs ds) f (sensed_by now.heading now.wind f)) (yaw_in p at (state_by now refs ds) (sensed_by now.heading now.wind f)) (sensed_by now.heading now.wind f)
-  unfolding IsNext
-  next_is o sensed pair hs hp n =
-      let s = state_by now refs ds in
-      let h = sensed_by now.heading now.wind f in
+  next_is : (o : Option Estimates)
+      → SomeIff o (IsPlaneWithin (plane_cycle p at now sensed pair place).next × IsYawWithin (yaw_cycle p at now sensed).next) (estimates_by now sensed (plane_cycle p at now sensed pair place).next (yaw_cycle p at now sensed).next)
+      → IsNext o (plane_in p at s f h) (yaw_in p at s h) h
+  unfolding IsNext h
+  next_is o n =
       subst (λ (x : Sensed). IsNext o (plane_in p at s f h) (yaw_in p at s h) x) hs
-      (subst (λ (y : YawStep). IsNext o (plane_in p at s f h) y sensed) (yaw_is sensed hs)
-      (subst (λ (x : PlaneStep). IsNext o x (yaw_cycle p at now sensed) sensed) (plane_is sensed pair hs hp) n))
+      (subst (λ (y : YawStep). IsNext o (plane_in p at s f h) y sensed) yaw_is
+      (subst (λ (x : PlaneStep). IsNext o x (yaw_cycle p at now sensed) sensed) plane_is n))
 
-  made : List ℤ → List ℤ → List (List ℤ) → Estimates → Kept → Kept → Kept → Step
-  made demand forces demands e a b c = record {
-    issue = record { cycle = now.count; forces = record { items = forces }; demand = demand };
-    next = record {
-      count = e.count;
-      plane = e.plane;
-      yaw = e.yaw;
-      heading = e.heading;
-      wind = e.wind;
-      lost = e.lost;
-      samples = a ∷ b ∷ c ∷ [];
-      demands = record { items = demands };
-    };
-  }
-
-  made_same : (d d' fs fs' : List ℤ) (ds ds' : List (List ℤ)) (e e' : Estimates) (a b c a' b' c' : Kept)
-      → d ≡ d' → fs ≡ fs' → ds ≡ ds' → e ≡ e' → a ≡ a' → b ≡ b' → c ≡ c' → made d fs ds e a b c ≡ made d' fs' ds' e' a' b' c'
-  made_same d d' fs fs' ds ds' e e' a b c a' b' c' h i j k l m n = cc
-
-  pub step_is : (sensed : Sensed) (pair : ℤ × ℤ) (demand forces : List ℤ) (demands : List (List ℤ)) (next : Estimates)
-      → sensed ≡ sensed_by now.heading now.wind f → pair ≡ pair_of (unwrap_or sensed.heading now.heading)
-      → demand ≡ whole_demand (plane_cycle p at now sensed pair after) (yaw_cycle p at now sensed)
-      → SomeIff (Some next) (IsPlaneWithin (plane_cycle p at now sensed pair after).next × IsYawWithin (yaw_cycle p at now sensed).next) (estimates_by now sensed (plane_cycle p at now sensed pair after).next (yaw_cycle p at now sensed).next)
-      → forces ≡ forces_by p now.lost demand → demands ≡ last_of 60 (ds ++ demand ∷ [])
-      → step_at p at (state_by now refs ds) f ≡ Some (record { issue = record { cycle = now.count; forces = record { items = forces }; demand = demand }; next = state_by next after demands })
-  unfolding made IsNext
-  step_is sensed pair demand forces demands next hs hp hd hn hf hds =
-      let s = state_by now refs ds in
-      let h = sensed_by now.heading now.wind f in
+  pub step_is : (demand forces : List ℤ) (limited : List Bool) (demands : List (List ℤ)) (alarms : Alarms) (next : Estimates)
+      → demand ≡ whole_demand (plane_cycle p at now sensed pair place) (yaw_cycle p at now sensed) → limited ≡ limited_cycle p at now sensed pair
+      → SomeIff (Some next) (IsPlaneWithin (plane_cycle p at now sensed pair place).next × IsYawWithin (yaw_cycle p at now sensed).next) (estimates_by now sensed (plane_cycle p at now sensed pair place).next (yaw_cycle p at now sensed).next)
+      → forces ≡ forces_by p sensed.lost demand → demands ≡ last_of 60 (ds ++ demand ∷ []) → alarms ≡ alarms_by p verdicts f place sensed limited (mean_demand demands)
+      → step_at p at (state_by now refs ds) f
+      ≡ Some (record { issue = record { cycle = now.count; forces = record { items = forces }; demand = demand; alarms = alarms }; next = state_by next after demands })
+  unfolding made IsNext s h
+  step_is demand forces limited demands alarms next hd hl hn hf hds ha =
       let x = plane_in p at s f h in
       let y = yaw_in p at s h in
-      let n = next_is (Some next) sensed pair hs hp hn in
-      let d : demand ≡ whole_demand x y = hd ∙ ap (λ (z : PlaneStep). whole_demand z (yaw_cycle p at now sensed)) (plane_is sensed pair hs hp) ∙ ap (λ (z : YawStep). whole_demand x z) (yaw_is sensed hs) in
-      let fs : forces_by p now.lost (whole_demand x y) ≡ forces = ap (λ (z : List ℤ). forces_by p now.lost z) (sym d) ∙ sym hf in
-      let dds : last_of 60 (ds ++ whole_demand x y ∷ []) ≡ demands = ap (λ (z : List ℤ). last_of 60 (ds ++ z ∷ [])) (sym d) ∙ sym hds in
-      step_ok p at s f n.0.0 n.0.1 ∙ ap (λ (t : Step). Some t) (made_same _ _ _ _ _ _ _ _ _ _ _ _ _ _ (sym d) fs dds (sym n.1)
+      let n = next_is (Some next) hn in
+      let d : demand ≡ whole_demand x y = hd ∙ ap (λ (z : PlaneStep). whole_demand z (yaw_cycle p at now sensed)) plane_is ∙ ap (λ (z : YawStep). whole_demand x z) yaw_is in
+      let fs : forces ≡ forces_by p h.lost (whole_demand x y) = hf ∙ ap (λ (z : Sensed). forces_by p z.lost demand) hs ∙ ap (λ (z : List ℤ). forces_by p h.lost z) d in
+      let dds : demands ≡ last_of 60 (ds ++ whole_demand x y ∷ []) = hds ∙ ap (λ (z : List ℤ). last_of 60 (ds ++ z ∷ [])) d in
+      let warned : alarms ≡ alarms_in p at s f h (whole_demand x y) =
+      ha ∙ alarms_same p f _ _ _ _ _ _ _ _ _ _ verdicts_are place_is hs (hl ∙ limited_is) dds in
+      step_ok p at s f n.0.0 n.0.1 ∙ ap (λ (t : Step). Some t) (made_same _ _ _ _ _ _ _ _ _ _ _ _ _ _ _ _ _ (sym d) (sym fs) (sym warned) (sym dds) (sym n.1)
       (sym (window_is refs.first after.first (limits_at p 0) now.count (slot_of f.pos 0) are.first_limits heard.first))
       (sym (window_is refs.second after.second (limits_at p 1) now.count (slot_of f.pos 1) are.second_limits heard.second))
       (sym (window_is refs.third after.third (limits_at p 2) now.count (slot_of f.pos 2) are.third_limits heard.third)))
 
-  pub step_is_none : (sensed : Sensed) (pair : ℤ × ℤ) → sensed ≡ sensed_by now.heading now.wind f → pair ≡ pair_of (unwrap_or sensed.heading now.heading)
-      → (IsPlaneWithin (plane_cycle p at now sensed pair after).next × IsYawWithin (yaw_cycle p at now sensed).next → ⊥)
+  pub step_is_none : (IsPlaneWithin (plane_cycle p at now sensed pair place).next × IsYawWithin (yaw_cycle p at now sensed).next → ⊥)
       → step_at p at (state_by now refs ds) f ≡ None
-  unfolding IsNext
-  step_is_none sensed pair hs hp out = step_err p at (state_by now refs ds) f (next_is None sensed pair hs hp out)
+  unfolding IsNext s h
+  step_is_none out = step_err p at s f (next_is None out)

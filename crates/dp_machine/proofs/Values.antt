@@ -13,7 +13,7 @@ use Rattle.dp_machine.specs.declared.references.References.{References}
 use Rattle.dp_machine.specs.declared.state.State.{State}
 use Rattle.dp_machine.specs.Machine.{MachineValue, first_machine, with_rest, with_state}
 use Rattle.dp_machine.specs.Parts.{AreDemands, AreReferences, estimates_of, state_by}
-use Rattle.dp_machine.specs.Ranges.{IsWholeDemand}
+use Rattle.dp_alloc.specs.Ranges.{IsDemandWithin}
 use Rattle.dp_machine.specs.Step.{first_state, limits_in, rest_in}
 
 -- a value of these parts
@@ -80,7 +80,7 @@ pub demands_new : (n : ℕ) (ring : Buffer (List ℤ)) → n ≡ 0 → ring ≡ 
 demands_new n ring z e = record {
   capacity = ap (λ (b : Buffer (List ℤ)). b.capacity) e;
   few = (let none : length ring.items ≡ 0 = ap (λ (b : Buffer (List ℤ)). length b.items) e in omega (arith, none, z));
-  within = subst (λ (b : Buffer (List ℤ)). All IsWholeDemand b.items) (sym e) (All-nil IsWholeDemand);
+  within = subst (λ (b : Buffer (List ℤ)). All IsDemandWithin b.items) (sym e) (All-nil IsDemandWithin);
 }
 
 pub new_is : (p q : Plant) (now : Estimates) (refs : References) (ds : List (List ℤ)) → q ≡ p → now ≡ estimates_of (first_state p)

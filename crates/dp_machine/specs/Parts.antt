@@ -1,5 +1,5 @@
 -- A state in the parts in which a machine holds it.
-use Rattle.std.specs.Prelude.{◌≡◌, ◌<◌, ◌≤◌, ◌^◌, ◌+◌, ◌-◌, ℕ, min, List, [], ◌∷◌, All, length, ℤ, Option, Some, None, unwrap_or}
+use Rattle.std.specs.Prelude.{◌≡◌, ◌<◌, ◌≤◌, ◌^◌, ◌+◌, ◌-◌, ℕ, Bool, min, List, [], ◌∷◌, All, length, ℤ, Option, Some, None, unwrap_or}
 use Rattle.std.specs.Option.{option_map}
 use Rattle.circular_buffer.specs.Buffer.{Buffer}
 use Rattle.dp_plant.specs.declared.frames.Slot.{Slot}
@@ -12,15 +12,15 @@ use Rattle.dp_reftest.specs.Window.{slot_of, window_next}
 use Rattle.dp_machine.specs.declared.estimates.Estimates.{Estimates}
 use Rattle.dp_machine.specs.declared.references.References.{References}
 use Rattle.dp_machine.specs.declared.state.State.{State}
-use Rattle.dp_machine.specs.Ranges.{IsWholeDemand, IsYawInRange}
-use Rattle.dp_machine.specs.Step.{limits_at, plane_by, push_by, yaw_by}
+use Rattle.dp_alloc.specs.Ranges.{IsDemandWithin}
+use Rattle.dp_machine.specs.Ranges.{IsYawInRange}
+use Rattle.dp_machine.specs.Step.{limited_by, limits_at, plane_by, push_by, yaw_by}
 use Rattle.dp_machine.specs.declared.sensed.Sensed.{Sensed}
 use Rattle.dp_plant.specs.declared.limits.Setpoint.{Setpoint}
 use Rattle.dp_plant.specs.declared.plane.PlaneState.{PlaneState}
 use Rattle.dp_plant.specs.declared.yaw.YawState.{YawState}
 use Rattle.dp_plant.specs.Step.{PlaneStep}
 use Rattle.dp_plant.specs.Yaw.{YawStep}
-use Rattle.dp_fuse.specs.Places.{fused_place, origins_by}
 use Rattle.dp_reftest.specs.Verdict.{verdict_of}
 use Rattle.dp_plant.specs.declared.references.Verdict.{Verdict}
 
@@ -84,7 +84,7 @@ pub record AreTaken (old new : References) (cycle : ℕ) (pos : List (Slot Place
 pub record AreDemands (count : ℕ) (ring : Buffer (List ℤ)) : Type 0 where
   pub capacity : ring.capacity ≡ 60
   pub few : length ring.items ≡ min 60 count
-  pub within : All IsWholeDemand ring.items
+  pub within : All IsDemandWithin ring.items
 
 -- what the tests say
 abbrev pub verdicts_by : References → List Verdict
@@ -93,17 +93,16 @@ verdicts_by r =
     ∷ verdict_of r.second.limits r.second.kept (r.second.next - 1)
     ∷ verdict_of r.third.limits r.third.kept (r.third.next - 1) ∷ []
 
--- where they say that the vessel's origin is, by the sine pair of the heading
-unfoldable pub measured_by : Plant → ℤ × ℤ → References → Option Place
-measured_by p pair refs = fused_place (origins_by pair p.levers (verdicts_by refs))
-
--- ---- a cycle from these parts
-abbrev pub plane_cycle : Plant → Setpoint → Estimates → Sensed → ℤ × ℤ → References → PlaneStep
-plane_cycle p at now h pair refs =
-    plane_by p at now.lost pair (push_by p h.gust) now.plane (measured_by p pair refs)
+-- ---- a cycle from these parts, and the measured place, if there is one
+abbrev pub plane_cycle : Plant → Setpoint → Estimates → Sensed → ℤ × ℤ → Option Place → PlaneStep
+plane_cycle p at now h pair place = plane_by p at h.lost pair (push_by p h.gust) now.plane place
 
 abbrev pub yaw_cycle : Plant → Setpoint → Estimates → Sensed → YawStep
-yaw_cycle p at now h = yaw_by p at now.lost (push_by p h.gust) now.yaw h.heading
+yaw_cycle p at now h = yaw_by p at h.lost (push_by p h.gust) now.yaw h.heading
+
+abbrev pub limited_cycle : Plant → Setpoint → Estimates → Sensed → ℤ × ℤ → List Bool
+limited_cycle p at now h pair =
+    limited_by p at h.lost pair (push_by p h.gust) now.plane now.yaw
 
 -- the estimates of the next cycle
 abbrev pub estimates_by : Estimates → Sensed → PlaneState → YawState → Estimates
@@ -113,7 +112,7 @@ estimates_by now h plane yaw = record {
   yaw = yaw;
   heading = unwrap_or h.heading now.heading;
   wind = unwrap_or (option_map (λ g. g.angle) h.gust) now.wind;
-  lost = now.lost;
+  lost = h.lost;
 }
 
 -- where both stay in range

@@ -1,9 +1,9 @@
 -- The ranges of a state.
-use Rattle.std.specs.Prelude.{◌≡◌, ◌<◌, ◌≤◌, ◌^◌, min, List, All, length, ℤ, pos, ◌≤ℤ◌, ◌<ℤ◌, unsigned_abs}
+use Rattle.std.specs.Prelude.{◌≡◌, ◌<◌, ◌≤◌, ◌^◌, min, All, length, pos, ◌≤ℤ◌, ◌<ℤ◌, unsigned_abs}
 use Rattle.dp_plant.specs.declared.plant.Plant.{Plant}
 use Rattle.dp_plant.specs.declared.yaw.YawState.{YawState}
 use Rattle.dp_plant.specs.Ranges.{IsPlaneWithin}
-use Rattle.dp_plant.specs.Vectors.{entry}
+use Rattle.dp_alloc.specs.Ranges.{IsDemandWithin}
 use Rattle.dp_plant.specs.Yaw.{turn}
 use Rattle.dp_reftest.specs.Window.{IsKept}
 use Rattle.dp_machine.specs.declared.state.State.{State}
@@ -16,12 +16,6 @@ pub record IsYawInRange (x : YawState) : Type 0 where
   pub psi_high : x.psi <ℤ turn
   pub beta : unsigned_abs x.beta ≤ 2 ^ 38
   pub rate : unsigned_abs x.rate ≤ 2 ^ 53
-
--- a demand on surge and sway within 2^31 of zero, and on yaw within 2^38
-pub record IsWholeDemand (demand : List ℤ) : Type 0 where
-  pub surge : unsigned_abs (entry demand 0) ≤ 2 ^ 31
-  pub sway : unsigned_abs (entry demand 1) ≤ 2 ^ 31
-  pub yaw : unsigned_abs (entry demand 2) ≤ 2 ^ 38
 
 -- the ranges of the states of a plant's computers
 pub record IsStateWithin (p : Plant) (s : State) : Type 0 where
@@ -37,4 +31,4 @@ pub record IsStateWithin (p : Plant) (s : State) : Type 0 where
   pub third : IsKept (limits_at p 2).window s.count (kept_at s.samples 2)
   -- one for each cycle, up to 60
   pub few : length s.demands.items ≡ min 60 s.count
-  pub demands : All IsWholeDemand s.demands.items
+  pub demands : All IsDemandWithin s.demands.items

@@ -1,7 +1,9 @@
 -- One cycle of one computer.
-use Rattle.std.specs.Prelude.{ℕ, ◌+◌, ◌/◌, ◌^◌, Bool, ◌&&◌, nat_le, if◌then◌else◌, List, [], ◌∷◌, ◌++◌, filter_map, slice_index_or, Option, Some, None, unwrap_or, ℤ, pos, unsigned_abs}
+use Rattle.std.specs.Prelude.{ℕ, ◌+◌, ◌/◌, ◌^◌, Bool, ◌&&◌, nat_le, if◌then◌else◌, List, [], ◌∷◌, ◌++◌, filter_map, map, slice_index_or, Option, Some, None, is_none, unwrap_or, ℤ, pos, unsigned_abs}
 use Rattle.std.specs.Option.{option_map}
 use Rattle.dp_trig.specs.SinePair.{pair_of}
+use Rattle.dp_plant.specs.Cases.{box_of, case_of}
+use Rattle.dp_plant.specs.declared.alarms.Alarms.{Alarms}
 use Rattle.dp_plant.specs.declared.frames.Frame.{Frame}
 use Rattle.dp_plant.specs.declared.frames.Gust.{Gust}
 use Rattle.dp_plant.specs.declared.limits.Setpoint.{Setpoint}
@@ -21,25 +23,30 @@ use Rattle.dp_reftest.specs.Window.{last_of, no_samples, slot_of, window_next}
 use Rattle.dp_fuse.specs.Angles.{fused_angle}
 use Rattle.dp_fuse.specs.Gusts.{fused_gust}
 use Rattle.dp_fuse.specs.Places.{fused_place, origins_by}
+use Rattle.dp_alloc.specs.Thrust.{forces_of}
+use Rattle.dp_pid.specs.Asked.{limited_of}
 use Rattle.dp_pid.specs.WindPush.{wind_push}
+use Rattle.dp_consequence.specs.{mean_demand, unsurvived_bits}
 use Rattle.dp_machine.specs.declared.issue.Issue.{Issue}
 use Rattle.dp_machine.specs.declared.sensed.Sensed.{Sensed}
 use Rattle.dp_machine.specs.declared.state.State.{State}
-use Rattle.dp_machine.specs.Case.{box_of, case_of, forces_of}
+use Rattle.dp_machine.specs.Alarms.{cause_of, damaged_in}
+use Rattle.dp_machine.specs.Groups.{lost_next}
 
 pub record Step : Type 0 where
   pub issue : Issue
   pub next : State
 
--- ---- what a cycle hears of heading and wind, each by its base
-unfoldable pub sensed_by : ℕ → ℕ → Frame → Sensed
-sensed_by heading wind f = record {
+-- ---- what a cycle hears of heading and wind, each by its base, and of the groups
+unfoldable pub sensed_by : ℕ → ℕ → ℕ → Frame → Sensed
+sensed_by heading wind lost f = record {
   heading = fused_angle heading (filter_map (λ s. s.last) f.gyro);
   gust = fused_gust wind (filter_map (λ s. s.last) f.wind);
+  lost = lost_next lost f.group;
 }
 
 abbrev pub sensed_of : State → Frame → Sensed
-sensed_of s f = sensed_by s.heading s.wind f
+sensed_of s f = sensed_by s.heading s.wind s.lost f
 
 -- the bases of the next cycle: what was fused, or the base as it was
 abbrev pub heading_in : State → Sensed → ℕ
@@ -74,8 +81,11 @@ abbrev pub verdicts_of : Plant → State → Frame → List Verdict
 verdicts_of p s f = verdict_at p s f 0 ∷ verdict_at p s f 1 ∷ verdict_at p s f 2 ∷ []
 
 -- where those that are usable say that the vessel's origin is, by the sine pair of the heading
-unfoldable pub measured_at : Plant → ℤ × ℤ → State → Frame → Option Place
-measured_at p pair s f = fused_place (origins_by pair p.levers (verdicts_of p s f))
+unfoldable pub measured_by : Plant → ℤ × ℤ → List Verdict → Option Place
+measured_by p pair verdicts = fused_place (origins_by pair p.levers verdicts)
+
+abbrev pub measured_at : Plant → ℤ × ℤ → State → Frame → Option Place
+measured_at p pair s f = measured_by p pair (verdicts_of p s f)
 
 -- ---- what is demanded, and the estimates after it
 -- the sine pair of the heading, cosine first
@@ -96,12 +106,21 @@ plane_by p at lost pair push x y = plane_step p.gains (box_of (case_of p lost)) 
 unfoldable pub yaw_by : Plant → Setpoint → ℕ → List ℤ → YawState → Option ℕ → YawStep
 yaw_by p at lost push x heading = yaw_step p.yaw (box_of (case_of p lost)) at push x heading
 
+-- which of surge, sway and yaw the box limits, by the states of plane and yaw
+unfoldable pub limited_by : Plant → Setpoint → ℕ → ℤ × ℤ → List ℤ → PlaneState → YawState
+    → List Bool
+limited_by p at lost pair push x yaw =
+    limited_of p.gains p.yaw (box_of (case_of p lost)) x yaw at pair push
+
 abbrev pub plane_in : Plant → Setpoint → State → Frame → Sensed → PlaneStep
 plane_in p at s f h =
-    plane_by p at s.lost (pair_in s h) (push_by p h.gust) s.plane (measured_at p (pair_in s h) s f)
+    plane_by p at h.lost (pair_in s h) (push_by p h.gust) s.plane (measured_at p (pair_in s h) s f)
 
 abbrev pub yaw_in : Plant → Setpoint → State → Sensed → YawStep
-yaw_in p at s h = yaw_by p at s.lost (push_by p h.gust) s.yaw h.heading
+yaw_in p at s h = yaw_by p at h.lost (push_by p h.gust) s.yaw h.heading
+
+abbrev pub limited_in : Plant → Setpoint → State → Sensed → List Bool
+limited_in p at s h = limited_by p at h.lost (pair_in s h) (push_by p h.gust) s.plane s.yaw
 
 -- on surge, sway and yaw
 abbrev pub whole_demand : PlaneStep → YawStep → List ℤ
@@ -129,11 +148,32 @@ demands_with s demand = last_of 60 (s.demands.items ++ demand ∷ [])
 unfoldable pub forces_by : Plant → ℕ → List ℤ → List ℤ
 forces_by p lost demand = forces_of p.thrusters.items (case_of p lost) demand
 
-abbrev pub issue_in : Plant → State → List ℤ → Issue
-issue_in p s demand = record {
+-- what a cycle warns of, by what the tests say, the frame, the measured place, if there is one, what
+-- is heard, which demands are limited, and the mean demand of late
+unfoldable pub alarms_by : Plant → List Verdict → Frame → Option Place → Sensed → List Bool → List ℤ
+    → Alarms
+alarms_by p verdicts f place h limited mean = record {
+  refs = map cause_of verdicts;
+  damaged = damaged_in f;
+  blind = is_none place;
+  gyro = is_none h.heading;
+  wind = is_none h.gust;
+  limited = limited;
+  nocase = is_none (case_of p h.lost);
+  lost = unsurvived_bits p h.lost mean;
+}
+
+abbrev pub alarms_in : Plant → Setpoint → State → Frame → Sensed → List ℤ → Alarms
+alarms_in p at s f h demand =
+    alarms_by p (verdicts_of p s f) f (measured_at p (pair_in s h) s f) h (limited_in p at s h)
+    (mean_demand (demands_with s demand))
+
+abbrev pub issue_in : Plant → Setpoint → State → Frame → Sensed → List ℤ → Issue
+issue_in p at s f h demand = record {
   cycle = s.count;
-  forces = record { items = forces_by p s.lost demand };
+  forces = record { items = forces_by p h.lost demand };
   demand = demand;
+  alarms = alarms_in p at s f h demand;
 }
 
 abbrev pub state_in : Plant → State → Frame → Sensed → List ℤ → PlaneState → YawState → State
@@ -143,15 +183,16 @@ state_in p s f h demand plane yaw = record {
   yaw = yaw;
   heading = heading_in s h;
   wind = wind_in s h;
-  lost = s.lost;
+  lost = h.lost;
   samples = window_at p s f 0 ∷ window_at p s f 1 ∷ window_at p s f 2 ∷ [];
   demands = record { items = demands_with s demand };
 }
 
 -- one cycle: what is issued, and the state after it
-abbrev pub step_by : Plant → State → Frame → Sensed → List ℤ → PlaneState → YawState → Step
-step_by p s f h demand plane yaw = record {
-  issue = issue_in p s demand;
+abbrev pub step_by : Plant → Setpoint → State → Frame → Sensed → List ℤ → PlaneState → YawState
+    → Step
+step_by p at s f h demand plane yaw = record {
+  issue = issue_in p at s f h demand;
   next = state_in p s f h demand plane yaw;
 }
 
@@ -160,7 +201,7 @@ unfoldable pub step_at : Plant → Setpoint → State → Frame → Option Step
 step_at p at s f =
     let h = sensed_of s f in let plane = plane_in p at s f h in let yaw = yaw_in p at s h in
     if is_within plane.next yaw.next
-    then Some (step_by p s f h (whole_demand plane yaw) plane.next yaw.next)
+    then Some (step_by p at s f h (whole_demand plane yaw) plane.next yaw.next)
     else None
 
 -- one cycle at the plant's own setpoint

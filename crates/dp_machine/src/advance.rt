@@ -3,7 +3,8 @@ ghost use Rattle.std.specs.Prelude.{◌≡◌, ◌≤◌, ◌<◌, ◌^◌, ◌+
 ghost use Rattle.std.specs.Option.{option_map};
 ghost use Rattle.dp_plant.specs.{IsGustWithin, IsMeasuredPlace, IsPair, IsPlaneWithin, IsPush, IsSoundPlant, IsYawPush, IsYawWithin, entry, plane_next, push_of, yaw_next};
 ghost use Rattle.dp_pid.specs.{IsWindPush};
-ghost use Rattle.dp_machine.specs.{AreEstimates, IsWholeDemand, IsYawInRange, joined_estimates};
+ghost use Rattle.dp_alloc.specs.{IsDemandWithin};
+ghost use Rattle.dp_machine.specs.{AreEstimates, IsYawInRange, joined_estimates};
 
 use crate::estimates::Estimates;
 use crate::sensed::Sensed;
@@ -22,7 +23,7 @@ pub(crate) fn plane_after(
     requires plant { IsSoundPlant plant.now }
     requires plane { IsPlaneWithin plane }
     requires place { IfSome place IsMeasuredPlace }
-    requires demand { IsWholeDemand demand }
+    requires demand { IsDemandWithin demand }
     requires wind { IsWindPush wind }
     requires pair { IsPair pair }
     ensures { let next = plane_next plant.now.gains plane place (push_of demand wind) pair in
@@ -46,7 +47,7 @@ pub(crate) fn yaw_after(
     requires plant { IsSoundPlant plant.now }
     requires yaw { IsYawInRange yaw }
     requires heading { IfSome heading (λ a. a < 36000) }
-    requires demand { IsWholeDemand demand }
+    requires demand { IsDemandWithin demand }
     requires wind { IsWindPush wind }
     ensures value { let next = yaw_next plant.now.yaw yaw heading (entry demand 2 +ℤ entry wind 2) in
         SomeIff result (IsYawWithin next) next }
@@ -61,7 +62,7 @@ pub(crate) fn yaw_after(
 
 /// What pushes in surge and sway: the demand and the wind together.
 fn push_of(demand: [i64; 3], wind: [i64; 3]) -> [i64; 2]
-    requires demand { IsWholeDemand demand }
+    requires demand { IsDemandWithin demand }
     requires wind { IsWindPush wind }
     ensures value { result ≡ push_of demand wind }
     ensures within { IsPush result }
@@ -80,7 +81,7 @@ fn pushed(demand: i64, wind: i64) -> i64
 
 /// What pushes in yaw.
 fn turning_push(demand: [i64; 3], wind: [i64; 3]) -> i64
-    requires demand { IsWholeDemand demand }
+    requires demand { IsDemandWithin demand }
     requires wind { IsWindPush wind }
     ensures value { result ≡ entry demand 2 +ℤ entry wind 2 }
     ensures within { IsYawPush result }
@@ -109,6 +110,7 @@ pub(crate) fn joined_estimates(
     requires count { now.now.count < 2 ^ 20 }
     requires heading { IfSome sensed.heading (λ a. a < 36000) }
     requires gust { IfSome sensed.gust IsGustWithin }
+    requires lost { sensed.lost < 2 ^ plant.now.groups }
     requires plane { IfSome plane IsPlaneWithin }
     requires yaw { IfSome yaw IsYawInRange }
     ensures value { result ≡ joined_estimates now.now sensed plane yaw }
@@ -123,7 +125,7 @@ pub(crate) fn joined_estimates(
         yaw,
         heading: sensed.heading.unwrap_or(now.heading),
         wind: angle_of(sensed.gust, now.wind),
-        lost: now.lost,
+        lost: sensed.lost,
     })
 }
 

@@ -1,61 +1,67 @@
 //! One cycle: what is demanded, and the estimates after it.
 ghost use Rattle.std.specs.Prelude.{◌≡◌, ◌<◌, ◌^◌, IfSome, SomeIff, Option, ℕ};
 ghost use Rattle.dp_plant.specs.declared.place.Place.{Place};
-ghost use Rattle.dp_plant.specs.{IsGustWithin, IsMeasuredPlace, IsPair, IsPlaneWithin, IsSetpointWithin, IsSoundPlant, IsYawWithin};
+ghost use Rattle.dp_plant.specs.{IsGustWithin, IsInBox, IsMeasuredPlace, IsPair, IsPlaneWithin, IsSetpointWithin, IsSoundPlant, IsYawWithin, box_of, case_of};
+ghost use Rattle.dp_alloc.specs.{IsDemandWithin, cases_of};
 ghost use Rattle.dp_pid.specs.{IsWindPush};
-ghost use Rattle.dp_machine.specs.Parts.{AreEstimates, estimates_by, measured_by, plane_cycle, yaw_cycle};
-ghost use Rattle.dp_machine.specs.Ranges.{IsWholeDemand};
-ghost use Rattle.dp_machine.specs.Step.{plane_by, push_by, whole_demand, yaw_by};
+ghost use Rattle.dp_machine.specs.Parts.{AreEstimates, estimates_by, limited_cycle, plane_cycle, yaw_cycle};
+ghost use Rattle.dp_machine.specs.Step.{limited_by, plane_by, push_by, whole_demand, yaw_by};
 
 use crate::advance::{joined_estimates, plane_after, yaw_after};
 use crate::estimates::Estimates;
-use crate::forces::box_of;
-use crate::references::References;
 use crate::sensed::Sensed;
-use dp_pid::{issue, wind_push};
+use dp_alloc::Cases;
+use dp_pid::{Asked, issue, wind_push};
 use dp_plant::{Gust, Place, Plant, Setpoint};
 
-/// What a cycle demands of surge, sway and yaw, and the estimates after it, where they stay in range.
+/// What a cycle demands of surge, sway and yaw, which of them its box limits, and the estimates after it, where they stay in range.
 #[derive(Clone, Copy, Debug, PartialEq, Eq)]
 pub(crate) struct Cycle {
     pub demand: [i64; 3],
+    pub limited: [bool; 3],
     pub next: Option<Estimates>,
 }
 
 impl Cycle {
-    /// The cycle at a setpoint, by what is sensed, the sine pair of the heading, and the tests of the references.
+    /// The cycle at a setpoint, by what is sensed, the sine pair of the heading, and the measured place.
     pub(crate) fn of(
         plant: &Plant,
+        cases: &Cases,
         at: &Setpoint,
         now: &Estimates,
         sensed: Sensed,
         pair: (i64, i64),
-        references: &References,
+        place: Option<Place>,
     ) -> Cycle
         requires plant { IsSoundPlant plant.now }
+        requires cases { cases.now ≡ cases_of plant.now }
         requires setpoint { IsSetpointWithin at.now }
         requires now { AreEstimates plant.now now.now }
         requires count { now.now.count < 2 ^ 20 }
         requires heading { IfSome sensed.heading (λ a. a < 36000) }
         requires gust { IfSome sensed.gust IsGustWithin }
+        requires lost { sensed.lost < 2 ^ plant.now.groups }
         requires pair { IsPair pair }
+        requires place { IfSome place IsMeasuredPlace }
         ensures demand { result.demand ≡ whole_demand
-            (plane_cycle plant.now at.now now.now sensed pair references.now)
+            (plane_cycle plant.now at.now now.now sensed pair place)
             (yaw_cycle plant.now at.now now.now sensed) }
-        ensures next { let plane = (plane_cycle plant.now at.now now.now sensed pair references.now).next in
+        ensures limited { result.limited ≡ limited_cycle plant.now at.now now.now sensed pair }
+        ensures next { let plane = (plane_cycle plant.now at.now now.now sensed pair place).next in
             let yaw = (yaw_cycle plant.now at.now now.now sensed).next in
             SomeIff result.next (IsPlaneWithin plane × IsYawWithin yaw)
             (estimates_by now.now sensed plane yaw) }
-        ensures whole { IsWholeDemand result.demand }
+        ensures in_box { IsInBox (box_of (case_of plant.now sensed.lost)) result.demand }
+        ensures whole { IsDemandWithin result.demand }
         ensures within { IfSome result.next (λ x. AreEstimates plant.now x) }
     {
         let wind = push_by(plant, sensed.gust);
-        let demand = demand_of(plant, at, now, pair, wind);
-        let place = measured_by(plant, pair, references);
+        let Asked { a: demand, limited } = asked_of(plant, cases, at, now, sensed.lost, pair, wind);
         let plane = plane_after(plant, now.plane, place, demand, wind, pair);
         let yaw = yaw_after(plant, now.yaw, sensed.heading, demand, wind);
         Cycle {
             demand,
+            limited,
             next: joined_estimates(plant, now, sensed, plane, yaw),
         }
     }
@@ -75,27 +81,33 @@ fn push_by(plant: &Plant, gust: Option<Gust>) -> [i64; 3]
     }
 }
 
-/// What is demanded of surge, sway and yaw.
-#[tactic(auto, unfolding(crate::specs::Step::plane_by, crate::specs::Step::yaw_by))]
-fn demand_of(
+/// What is demanded of surge, sway and yaw while a set of groups is lost, and which of them the box limits.
+#[tactic(auto, unfolding(crate::specs::Step::plane_by, crate::specs::Step::yaw_by, crate::specs::Step::limited_by))]
+fn asked_of(
     plant: &Plant,
+    cases: &Cases,
     at: &Setpoint,
     now: &Estimates,
+    lost: u8,
     pair: (i64, i64),
     wind: [i64; 3],
-) -> [i64; 3]
+) -> Asked
     requires plant { IsSoundPlant plant.now }
+    requires cases { cases.now ≡ cases_of plant.now }
     requires setpoint { IsSetpointWithin at.now }
     requires now { AreEstimates plant.now now.now }
     requires pair { IsPair pair }
     requires wind { IsWindPush wind }
-    ensures value { (y : Option Place) (h : Option ℕ) → result ≡ whole_demand
-        (plane_by plant.now at.now now.now.lost pair wind now.now.plane y)
-        (yaw_by plant.now at.now now.now.lost wind now.now.yaw h) }
-    ensures within { IsWholeDemand result }
+    ensures demand { (y : Option Place) (h : Option ℕ) → result.a ≡ whole_demand
+        (plane_by plant.now at.now lost pair wind now.now.plane y)
+        (yaw_by plant.now at.now lost wind now.now.yaw h) }
+    ensures limited { result.limited
+        ≡ limited_by plant.now at.now lost pair wind now.now.plane now.now.yaw }
+    ensures in_box { IsInBox (box_of (case_of plant.now lost)) result.a }
+    ensures within { IsDemandWithin result.a }
 {
-    let bounds = box_of(plant, now.lost);
-    let asked = issue(
+    let bounds = cases.bounds(lost);
+    issue(
         &plant.gains,
         &plant.yaw,
         &bounds,
@@ -104,17 +116,5 @@ fn demand_of(
         at,
         pair,
         wind,
-    );
-    asked.a
-}
-
-/// Where the vessel's origin is, by what the tests say.
-#[tactic(auto, unfolding(crate::specs::Parts::measured_by))]
-fn measured_by(plant: &Plant, pair: (i64, i64), references: &References) -> Option<Place>
-    requires plant { IsSoundPlant plant.now }
-    requires pair { IsPair pair }
-    ensures value { result ≡ measured_by plant.now pair references.now }
-    ensures within { IfSome result IsMeasuredPlace }
-{
-    dp_fuse::position(&references.verdicts(), &plant.levers, pair).place()
+    )
 }

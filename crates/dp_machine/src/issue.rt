@@ -1,12 +1,14 @@
 use arrayvec::ArrayVec;
+use dp_plant::Alarms;
 
-/// What a computer issues in a cycle: a force for each thruster in newtons, and the demand on surge, sway and yaw that they are to
-/// meet.
+/// What a computer issues in a cycle: a force for each thruster in newtons, the demand on surge, sway and yaw that they are to meet,
+/// and what it warns of.
 #[derive(Debug, Drop)]
 pub struct Issue {
     pub cycle: u64,
     pub forces: ArrayVec<i64, 12>,
     pub demand: [i64; 3],
+    pub alarms: Alarms,
 }
 
 impl Issue {
@@ -23,6 +25,7 @@ impl Issue {
             cycle: self.cycle,
             forces,
             demand: self.demand,
+            alarms: self.alarms,
         }
     }
 }

@@ -1,8 +1,9 @@
 //! The laws, each the contract of a function that does nothing.
-ghost use Rattle.dp_plant.specs.{IsSoundPlant, built_in_plant};
-ghost use Rattle.dp_machine.specs.{IssuesAreOfTheirCycle, IssuesHaveAForceForEachThruster};
+ghost use Rattle.dp_machine.specs.{IssuesAreOfTheirCycle, IssuesAreWithinLimits, IssuesHaveAForceForEachThruster};
 
-/// On a sound plant an issue has as many forces as the plant has thrusters.
+use dp_alloc::laws::forces_are_within_limits;
+
+/// An issue has as many forces as the plant has thrusters.
 pub fn issues_have_a_force_for_each_thruster()
     ensures { IssuesHaveAForceForEachThruster }
 {}
@@ -12,7 +13,9 @@ pub fn issues_are_of_their_cycle()
     ensures { IssuesAreOfTheirCycle }
 {}
 
-/// A machine can be made of the built-in plant.
-pub fn built_in_plant_is_sound()
-    ensures { IsSoundPlant built_in_plant }
-{}
+/// Where no case of the plant is refused, each force of an issue is one that its thruster can give, whatever groups are lost.
+pub fn issues_are_within_limits()
+    ensures { IssuesAreWithinLimits }
+{
+    forces_are_within_limits();
+}

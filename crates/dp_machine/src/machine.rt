@@ -1,17 +1,20 @@
 //! One computer's machine: its plant and its state.
 ghost use Rattle.std.specs.Prelude.{◌≡◌, ◌∷◌, [], ◌^◌, IfOk, OnErr, Some, None};
-ghost use Rattle.dp_plant.specs.{IsFrameWithin, IsSetpointWithin, IsSoundPlant, IsVectorWithin};
+ghost use Rattle.dp_plant.specs.{IsFrameInRange, IsSetpointWithin, IsVectorWithin};
+ghost use Rattle.dp_machine.specs.Accepted.{IsAcceptedPlant};
 ghost use Rattle.dp_machine.specs.Machine.{first_machine, one_more, with_rest, with_state};
 ghost use Rattle.dp_machine.specs.Ranges.{IsStateWithin};
 ghost use Rattle.dp_machine.specs.Step.{limits_at, step_at, step_of};
 
+use crate::alarms::alarms_of;
 use crate::cycle::Cycle;
 use crate::estimates::Estimates;
-use crate::forces::forces_of;
-use crate::references::References;
+use crate::references::{References, measured_by};
 use crate::sensed::Sensed;
 use crate::{Issue, State, demands};
 use circular_buffer::HeapCircularBuffer;
+use dp_alloc::Cases;
+use dp_cert::Accepted;
 use dp_observer::Diverged;
 use dp_plant::{Frame, Memory, Place, PlaneState, Plant, Setpoint};
 use dp_trig::Trig;
@@ -22,6 +25,7 @@ use std::marker::Model;
 #[derive(Drop)]
 pub struct Machine {
     plant: Plant,
+    cases: Cases,
     trig: Trig,
     estimates: Estimates,
     references: References,
@@ -34,6 +38,11 @@ impl Model for Machine {
 
     ghost Value = { MachineValue };
 
+    ghost use Rattle.std.specs.Coded.{codes};
+    ghost use Rattle.dp_plant.specs.contracts.plant.Plant.{the_row};
+
+    ghost coded = { Prim.hlevel (codes, the_row.coded) };
+
     ghost use Rattle.dp_machine.specs.Inside.{IsMachine, value_of};
 
     ghost view = { value_of };
@@ -42,14 +51,17 @@ impl Model for Machine {
 }
 
 impl Machine {
-    /// A machine with the plant's first state: at rest at its start, no samples, no demands, no group lost. No later call takes memory.
-    pub fn new(alloc: Global, plant: &Plant) -> Result<Machine, Memory>
-        requires { IsSoundPlant plant.now }
+    /// A machine with the plant's first state: at rest at its start, no samples, no demands, no group lost. None of the plant's cases is
+    /// refused ([`dp_alloc::first_refused`]), and its own gains were accepted. No later call takes memory.
+    pub fn new(alloc: Global, plant: &Plant, accepted: &Accepted) -> Result<Machine, Memory>
+        requires { IsAcceptedPlant plant.now accepted.now }
         ensures { IfOk result (λ m. m ≡ first_machine plant.now) }
     {
+        let trig = Trig::new();
         Ok(Machine {
             plant: plant.copy(),
-            trig: Trig::new(),
+            cases: Cases::of(alloc, plant, &trig)?,
+            trig,
             estimates: Estimates::first(plant),
             references: References::new(alloc, &plant.refs)?,
             demands: demands::ring(alloc)?,
@@ -65,9 +77,9 @@ impl Machine {
     }
 
     /// Takes one cycle at the plant's own setpoint: the frame of the next cycle. What is issued rests on the estimates before it, and on
-    /// this frame's heading, wind and places. After `Diverged` nothing is promised of the state but what `set` asks for.
+    /// this frame's heading, wind, places and groups. After `Diverged` nothing is promised of the state but what `set` asks for.
     pub fn step(&mut self, f: &Frame) -> Result<Issue, Diverged>
-        requires within { IsFrameWithin f.now }
+        requires within { IsFrameInRange self.old.plant.groups f.now }
         requires next { f.now.cycle ≡ self.old.state.count }
         ensures issued { IfOk result (λ issue. step_of self.old.plant self.old.state f.now
             ≡ Some (record { issue = issue; next = self.new.state })) }
@@ -81,7 +93,7 @@ impl Machine {
 
     /// Takes one cycle at a setpoint.
     pub fn step_to(&mut self, f: &Frame, at: &Setpoint) -> Result<Issue, Diverged>
-        requires within { IsFrameWithin f.now }
+        requires within { IsFrameInRange self.old.plant.groups f.now }
         requires next { f.now.cycle ≡ self.old.state.count }
         requires setpoint { IsSetpointWithin at.now }
         ensures issued { IfOk result (λ issue. step_at self.old.plant at.now self.old.state f.now
@@ -91,26 +103,39 @@ impl Machine {
         ensures plant { self.new.plant ≡ self.old.plant }
         ensures steps { self.new.steps ≡ one_more self.old.steps }
     {
-        let sensed = Sensed::of(f, self.estimates.heading, self.estimates.wind);
+        let sensed = Sensed::of(f, &self.estimates);
         let pair = self
             .trig
             .pair(sensed.heading.unwrap_or(self.estimates.heading));
         self.references.take(self.estimates.count, &f.pos);
+        let verdicts = self.references.verdicts();
+        let place = measured_by(&self.plant, pair, &verdicts);
         let cycle = Cycle::of(
             &self.plant,
+            &self.cases,
             at,
             &self.estimates,
             sensed,
             pair,
-            &self.references,
+            place,
         );
         let demand = cycle.demand;
+        demands::add(&mut self.demands, demand);
+        let mean = demands::mean(&self.demands);
         let issue = Issue {
             cycle: self.estimates.count,
-            forces: forces_of(&self.plant, self.estimates.lost, demand),
+            forces: self.cases.forces(sensed.lost, demand),
             demand,
+            alarms: alarms_of(
+                &self.plant,
+                &verdicts,
+                f,
+                place,
+                sensed,
+                cycle.limited,
+                mean,
+            ),
         };
-        demands::add(&mut self.demands, demand);
         self.steps = self.steps.saturating_add(1);
         let Some(next) = cycle.next else {
             self.estimates.count += 1;

@@ -1,13 +1,13 @@
 //! The tests of the three position references.
-ghost use Rattle.std.specs.Prelude.{◌≡◌, ◌≤◌, ◌<◌, ◌^◌, ◌+◌, ◌-◌, ◌∷◌, [], All, IfOk, length};
+ghost use Rattle.std.specs.Prelude.{◌≡◌, ◌≤◌, ◌<◌, ◌^◌, ◌+◌, ◌-◌, ◌∷◌, [], All, IfOk, IfSome, length};
 ghost use Rattle.std.specs.List.{AllByRecursion};
-ghost use Rattle.dp_plant.specs.{AreRefLimits, IsPlaceSlotWithin};
+ghost use Rattle.dp_plant.specs.{AreRefLimits, IsMeasuredPlace, IsPair, IsPlaceSlotWithin, IsSoundPlant};
 ghost use Rattle.dp_reftest.specs.{IsKept, tested_by, untested};
 ghost use Rattle.dp_fuse.specs.{IsVerdictWithin};
 ghost use Rattle.dp_machine.specs.Parts.{AreTaken, windows_by, verdicts_by};
-ghost use Rattle.dp_machine.specs.Step.{kept_at, limits_in};
+ghost use Rattle.dp_machine.specs.Step.{kept_at, limits_in, measured_by};
 
-use dp_plant::{Memory, Place, RefLimits, Slot, Verdict};
+use dp_plant::{Memory, Place, Plant, RefLimits, Slot, Verdict};
 use dp_reftest::{Kept, RefTest};
 use std::alloc::Global;
 
@@ -89,4 +89,16 @@ impl References {
         self.second.set(next, second);
         self.third.set(next, third);
     }
+}
+
+/// Where the vessel's origin is, by what the tests say.
+#[tactic(auto, unfolding(crate::specs::Step::measured_by))]
+pub(crate) fn measured_by(plant: &Plant, pair: (i64, i64), verdicts: &[Verdict; 3]) -> Option<Place>
+    requires plant { IsSoundPlant plant.now }
+    requires pair { IsPair pair }
+    requires verdicts { All IsVerdictWithin verdicts.now }
+    ensures value { result ≡ measured_by plant.now pair verdicts.now }
+    ensures within { IfSome result IsMeasuredPlace }
+{
+    dp_fuse::position(verdicts, &plant.levers, pair).place()
 }

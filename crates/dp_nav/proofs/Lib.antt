@@ -1,1 +1,3 @@
 pub mod DigitBounds
+pub mod FirstFields
+pub mod DigitCuts

@@ -1,10 +1,10 @@
 //! Decimal numbers as they stand in fields: `4807.038`.
 ghost use Rattle.std.specs.Prelude.{◌≡◌, ◌<◌, ◌≤◌, ◌^◌, length, take, IfSome, MatchOption, false, true};
-ghost use Rattle.std.specs.List.{list_all, position_or_len};
+ghost use Rattle.std.specs.List.{list_all, prefix_len};
 ghost use Rattle.std.specs.Char.{is_ascii_digit};
 ghost use Rattle.dp_text.specs.{decimal_of, digits_after};
 ghost use Rattle.dp_nav.specs.Decimals as Decimals;
-ghost use Rattle.dp_nav.specs.Decimals.{is_decimal, is_point};
+ghost use Rattle.dp_nav.specs.Decimals.{is_decimal};
 
 /// The most digits of a decimal.
 const MOST_DIGITS: usize = 20;
@@ -25,39 +25,43 @@ fn all_digits(text: &[u8]) -> bool
     text.iter().all(|byte| byte.is_ascii_digit())
 }
 
-/// How many bytes come before the point.
-fn before_point(text: &[u8]) -> usize
-    ensures { result ≡ position_or_len is_point text.now }
+/// How many digits a text begins with.
+fn digits_len(text: &[u8]) -> usize
+    ensures { result ≡ prefix_len is_ascii_digit text.now }
 {
-    text.iter().take_while(|byte| **byte != b'.').count()
+    text.iter().take_while(|byte| byte.is_ascii_digit()).count()
 }
 
 impl<'a> Decimal<'a> {
-    /// What comes before the first point, and what comes after it.
-    fn cut(text: &'a [u8]) -> Decimal<'a>
-        ensures whole { result.whole.now ≡ Decimals.whole text.now }
-        ensures decimals { result.decimals.now ≡ Decimals.decimals text.now }
+    /// What comes before the first point, and what comes after it; none where something else than digits comes before it.
+    fn cut(text: &'a [u8]) -> Option<Decimal<'a>>
+        ensures { MatchOption result (list_all is_ascii_digit (Decimals.whole text.now) ≡ false)
+            (λ d. (list_all is_ascii_digit (Decimals.whole text.now) ≡ true)
+            × (d.whole.now ≡ Decimals.whole text.now)
+            × (d.decimals.now ≡ Decimals.decimals text.now)) }
     {
-        let at = before_point(text);
-        if at < text.len() {
-            Decimal {
-                whole: &text[..at],
-                decimals: &text[at + 1..],
-            }
-        } else {
-            Decimal {
+        let at = digits_len(text);
+        if at >= text.len() {
+            return Some(Decimal {
                 whole: text,
                 decimals: &[],
-            }
+            });
         }
+        if text[at] != b'.' {
+            return None;
+        }
+        Some(Decimal {
+            whole: &text[..at],
+            decimals: &text[at + 1..],
+        })
     }
 
     /// One digit or more, then nothing, or a point and any digits, none too; at most 20 digits.
     fn is_sound(&self) -> bool
+        requires { list_all is_ascii_digit self.now.whole.now ≡ true }
         ensures { result ≡ Decimals.is_sound self.now.whole.now self.now.decimals.now }
     {
         !self.whole.is_empty()
-            && all_digits(self.whole)
             && all_digits(self.decimals)
             && self.whole.len() + self.decimals.len() <= MOST_DIGITS
     }
@@ -66,9 +70,10 @@ impl<'a> Decimal<'a> {
     #[tactic(auto, unfolding(crate::specs::Decimals::is_decimal))]
     pub(crate) fn read(text: &'a [u8]) -> Option<Decimal<'a>>
         ensures { MatchOption result (is_decimal text.now ≡ false)
-            (λ d. (is_decimal text.now ≡ true) × (d.whole.now ≡ Decimals.whole text.now) × (d.decimals.now ≡ Decimals.decimals text.now)) }
+            (λ d. (is_decimal text.now ≡ true) × (d.whole.now ≡ Decimals.whole text.now)
+            × (d.decimals.now ≡ Decimals.decimals text.now)) }
     {
-        let decimal = Decimal::cut(text);
+        let decimal = Decimal::cut(text)?;
         if decimal.is_sound() {
             Some(decimal)
         } else {
@@ -94,6 +99,25 @@ fn prefix(text: &[u8], k: usize) -> &[u8]
     if text.len() < k { text } else { &text[..k] }
 }
 
+/// A power of ten.
+fn power(k: usize) -> u64
+    requires { k ≤ 9 }
+    ensures { result ≡ 10 ^ k }
+{
+    match k {
+        0 => 1,
+        1 => 10,
+        2 => 100,
+        3 => 1_000,
+        4 => 10_000,
+        5 => 100_000,
+        6 => 1_000_000,
+        7 => 10_000_000,
+        8 => 100_000_000,
+        _ => 1_000_000_000,
+    }
+}
+
 /// The first `k` decimals as a whole number of 10^-k.
 #[tactic(auto, unfolding(crate::specs::Decimals::kept))]
 pub(crate) fn kept(decimals: &[u8], k: usize) -> u64
@@ -102,7 +126,7 @@ pub(crate) fn kept(decimals: &[u8], k: usize) -> u64
     ensures bound { result < 10 ^ k }
 {
     let prefix = prefix(decimals, k);
-    number(prefix) * 10u64.pow((k - prefix.len()) as u32)
+    number(prefix) * power(k - prefix.len())
 }
 
 /// The number of 1 to 20 digits.

@@ -123,25 +123,6 @@ impl Axis {
     }
 }
 
-/// Whether a quality indicator is one of a fix.
-fn is_fix(quality: &[u8]) -> Option<bool>
-    ensures { result ≡ Gga.is_fix_of quality.now }
-{
-    match quality {
-        [b'1'..=b'5'] => Some(true),
-        [b'0' | b'6'..=b'8'] => Some(false),
-        _ => None,
-    }
-}
-
-/// Goes on where the quality indicator is one of a fix.
-fn check_quality(fields: &[&[u8]]) -> Result<(), Skip>
-    ensures { result ≡ Gga.quality_of (texts_of fields.now) }
-{
-    let is_fix = is_fix(field(fields, 6)?).ok_or(Skip::BadField { index: 6 })?;
-    if is_fix { Ok(()) } else { Err(Skip::NotValid) }
-}
-
 /// The fix of a GGA sentence's fields.
 #[tactic(auto, unfolding(crate::specs::Gga::fix_of))]
 pub(crate) fn fix(fields: &[&[u8]]) -> Result<Reading, Skip>
@@ -152,4 +133,23 @@ pub(crate) fn fix(fields: &[&[u8]]) -> Result<Reading, Skip>
     let lat = Axis::Latitude.coordinate(fields, 2)?;
     let lon = Axis::Longitude.coordinate(fields, 4)?;
     Ok(Reading::Fix { lat, lon })
+}
+
+/// Goes on where the quality indicator is one of a fix.
+fn check_quality(fields: &[&[u8]]) -> Result<(), Skip>
+    ensures { result ≡ Gga.quality_of (texts_of fields.now) }
+{
+    let is_fix = is_fix(field(fields, 6)?).ok_or(Skip::BadField { index: 6 })?;
+    if is_fix { Ok(()) } else { Err(Skip::NotValid) }
+}
+
+/// Whether a quality indicator is one of a fix.
+fn is_fix(quality: &[u8]) -> Option<bool>
+    ensures { result ≡ Gga.is_fix_of quality.now }
+{
+    match quality {
+        [b'1'..=b'5'] => Some(true),
+        [b'0' | b'6'..=b'8'] => Some(false),
+        _ => None,
+    }
 }

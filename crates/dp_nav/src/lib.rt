@@ -14,6 +14,8 @@
 //! or out of its range is [`Skip::BadField`] with its number, and data that the sender calls invalid are [`Skip::NotValid`]. Fields that are
 //! not named are not read, so there may be more of them, or fewer.
 //!
+//! [`sensed_first`] says the same of a sentence's formatter and its first [`FIELDS_READ`] fields.
+//!
 //! [`plain`] reads this project's own plain forms, which begin with `L` or `G`; on any other kind of wire each is [`Skip::OtherFormatter`].
 //! Parts are separated by one space.
 //!
@@ -47,4 +49,4 @@ mod turns;
 
 pub use plain_forms::plain;
 pub use reading::{Reading, Skip, WireKind};
-pub use sensing::sensed;
+pub use sensing::{FIELDS_READ, sensed, sensed_first};

@@ -12,6 +12,43 @@ const FARTHEST_MM: u64 = 8_796_093;
 /// Nanometres of a millimetre.
 const NANOMETRES: i64 = 1_000_000;
 
+/// The reading of a plain form, a text that begins with `L` or `G`, on a wire of this kind.
+///
+/// `L NORTH EAST` on a position wire is [`Reading::Local`], `G 1` and `G 0` on the wire of a group are [`Reading::Group`]. Either on another
+/// kind of wire is [`Skip::OtherFormatter`], whatever follows the letter. Else [`Skip::BadField`] names the first part that is wrong: 1 where
+/// `L` is followed by another byte than a space, 1 or 2 where NORTH or EAST is missing, no number of 1 to 18 digits with an optional `-`, or
+/// outside ±8796093 mm, 3 where more follows; and 1 for anything else after `G`.
+#[tactic(auto, unfolding(crate::specs::Plain::plain_of))]
+pub fn plain(kind: WireKind, rest: &[u8]) -> Result<Reading, Skip>
+    requires { IsTrue (is_plain rest.now) }
+    ensures value { result ≡ plain_of kind rest.now }
+    ensures within { IfOk result IsReadingWithin }
+{
+    match (kind, rest) {
+        (WireKind::Position, [b'L', after @ ..]) => local(after),
+        (WireKind::Group, [b'G', ..]) => group(rest),
+        _ => Err(Skip::OtherFormatter),
+    }
+}
+
+/// The place of what follows `L`.
+#[tactic(auto, unfolding(crate::specs::Plain::local_of))]
+fn local(after: &[u8]) -> Result<Reading, Skip>
+    ensures value { result ≡ local_of (parts_behind after.now) }
+    ensures within { IfOk result IsReadingWithin }
+{
+    let text = behind_space(after).ok_or(Skip::BadField { index: 1 })?;
+    let (part, text) = first_part(text);
+    let north = nanometres(part).ok_or(Skip::BadField { index: 1 })?;
+    let text = text.ok_or(Skip::BadField { index: 2 })?;
+    let (part, text) = first_part(text);
+    let east = nanometres(part).ok_or(Skip::BadField { index: 2 })?;
+    if text.is_some() {
+        return Err(Skip::BadField { index: 3 });
+    }
+    Ok(Reading::Local { north, east })
+}
+
 /// What follows a space, if it comes first.
 fn behind_space(text: &[u8]) -> Option<&[u8]>
     ensures { parts_in result ≡ parts_behind text.now }
@@ -46,24 +83,6 @@ fn nanometres(text: &[u8]) -> Option<i64>
     }
 }
 
-/// The place of what follows `L`.
-#[tactic(auto, unfolding(crate::specs::Plain::local_of))]
-fn local(after: &[u8]) -> Result<Reading, Skip>
-    ensures value { result ≡ local_of (parts_behind after.now) }
-    ensures within { IfOk result IsReadingWithin }
-{
-    let text = behind_space(after).ok_or(Skip::BadField { index: 1 })?;
-    let (part, text) = first_part(text);
-    let north = nanometres(part).ok_or(Skip::BadField { index: 1 })?;
-    let text = text.ok_or(Skip::BadField { index: 2 })?;
-    let (part, text) = first_part(text);
-    let east = nanometres(part).ok_or(Skip::BadField { index: 2 })?;
-    if text.is_some() {
-        return Err(Skip::BadField { index: 3 });
-    }
-    Ok(Reading::Local { north, east })
-}
-
 /// The state of a group.
 fn group(text: &[u8]) -> Result<Reading, Skip>
     ensures value { result ≡ group_of text.now }
@@ -75,24 +94,5 @@ fn group(text: &[u8]) -> Result<Reading, Skip>
         Ok(Reading::Group(false))
     } else {
         Err(Skip::BadField { index: 1 })
-    }
-}
-
-/// The reading of a plain form, a text that begins with `L` or `G`, on a wire of this kind.
-///
-/// `L NORTH EAST` on a position wire is [`Reading::Local`], `G 1` and `G 0` on the wire of a group are [`Reading::Group`]. Either on another
-/// kind of wire is [`Skip::OtherFormatter`], whatever follows the letter. Else [`Skip::BadField`] names the first part that is wrong: 1 where
-/// `L` is followed by another byte than a space, 1 or 2 where NORTH or EAST is missing, no number of 1 to 18 digits with an optional `-`, or
-/// outside ±8796093 mm, 3 where more follows; and 1 for anything else after `G`.
-#[tactic(auto, unfolding(crate::specs::Plain::plain_of))]
-pub fn plain(kind: WireKind, rest: &[u8]) -> Result<Reading, Skip>
-    requires { IsTrue (is_plain rest.now) }
-    ensures value { result ≡ plain_of kind rest.now }
-    ensures within { IfOk result IsReadingWithin }
-{
-    match (kind, rest) {
-        (WireKind::Position, [b'L', after @ ..]) => local(after),
-        (WireKind::Group, [b'G', ..]) => group(rest),
-        _ => Err(Skip::OtherFormatter),
     }
 }

@@ -9,6 +9,25 @@ use crate::motion::{bias_next, place_next, velocity_next};
 use dp_fixed::{Q, difference, floor_div, product, sum};
 use dp_plant::{Component, Gains};
 
+/// One component a cycle later, where it stays within the limit.
+pub(crate) fn component(gains: &Gains, x: Component, y: i64, push: i128) -> Option<Component>
+    requires gains { IsObserverGains gains.now }
+    requires state { IsComponentWithin x }
+    requires place { unsigned_abs y ≤ 2 ^ 44 }
+    requires push { unsigned_abs push ≤ 2 ^ 92 }
+    ensures { let later = component_next gains.now x y push in SomeIff result
+        (IsComponentWithin later) later }
+{
+    let off = offset(x, y);
+    let eta = place_next(gains.k2, x.eta, x.vel, off);
+    let beta = bias_next(gains.leak, gains.k3, x.beta, off);
+    let vel = velocity_next(gains.damp, gains.k4, x.beta, x.vel, push, off);
+    let wave = gains.wave;
+    let wave_p = wave_next(wave[0], wave[1], gains.k1[0], x.wave_p, x.wave_q, off);
+    let wave_q = wave_next(wave[2], wave[3], gains.k1[1], x.wave_p, x.wave_q, off);
+    within(eta, beta, vel, wave_p, wave_q)
+}
+
 /// How far the measured place is from the estimate, the motion by waves taken off.
 fn offset(x: Component, y: i64) -> i128
     requires state { IsComponentWithin x }
@@ -37,8 +56,9 @@ fn wave_next(by_p: i64, by_q: i64, by_place: i64, p: i64, q: i64, off: i128) -> 
 
 /// These numbers, where each is within the limit.
 fn within(eta: i128, beta: i128, vel: i128, wave_p: i128, wave_q: i128) -> Option<Component>
-    ensures { let x : Component = record { eta = eta; beta = beta; vel = vel; wave_p = wave_p; wave_q = wave_q } in
-        SomeIff result (IsComponentWithin x) x }
+    ensures { let x : Component = record
+        { eta = eta; beta = beta; vel = vel; wave_p = wave_p; wave_q = wave_q }
+        in SomeIff result (IsComponentWithin x) x }
 {
     Some(Component {
         eta: coordinate(eta)?,
@@ -47,23 +67,4 @@ fn within(eta: i128, beta: i128, vel: i128, wave_p: i128, wave_q: i128) -> Optio
         wave_p: coordinate(wave_p)?,
         wave_q: coordinate(wave_q)?,
     })
-}
-
-/// One component a cycle later, where it stays within the limit.
-pub(crate) fn component(gains: &Gains, x: Component, y: i64, push: i128) -> Option<Component>
-    requires gains { IsObserverGains gains.now }
-    requires state { IsComponentWithin x }
-    requires place { unsigned_abs y ≤ 2 ^ 44 }
-    requires push { unsigned_abs push ≤ 2 ^ 92 }
-    ensures { let later = component_next gains.now x y push in SomeIff result
-        (IsComponentWithin later) later }
-{
-    let off = offset(x, y);
-    let eta = place_next(gains.k2, x.eta, x.vel, off);
-    let beta = bias_next(gains.leak, gains.k3, x.beta, off);
-    let vel = velocity_next(gains.damp, gains.k4, x.beta, x.vel, push, off);
-    let wave = gains.wave;
-    let wave_p = wave_next(wave[0], wave[1], gains.k1[0], x.wave_p, x.wave_q, off);
-    let wave_q = wave_next(wave[2], wave[3], gains.k1[1], x.wave_p, x.wave_q, off);
-    within(eta, beta, vel, wave_p, wave_q)
 }

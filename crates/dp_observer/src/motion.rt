@@ -3,10 +3,7 @@ ghost use Rattle.std.specs.Prelude.{◌≡◌, ◌≤◌, ◌^◌, ◌*ℤ◌, �
 ghost use Rattle.dp_fixed.specs.{floor_of, full_scale};
 ghost use Rattle.dp_plant.specs.{IsShare};
 
-use dp_fixed::{Q, difference, floor_div, product, sum};
-
-/// The scale of gains, in 64 bits.
-const ONE: i64 = 1 << 30;
+use dp_fixed::{FULL_SCALE, Q, difference, floor_div, product, sum};
 
 /// A place or heading, moved by its velocity and by its share of how far it is off.
 pub(crate) fn place_next(k2: i64, eta: i64, vel: i64, off: i128) -> i128
@@ -17,7 +14,7 @@ pub(crate) fn place_next(k2: i64, eta: i64, vel: i64, off: i128) -> i128
     ensures { result ≡ floor_of ((full_scale *ℤ (eta +ℤ vel)) +ℤ (k2 *ℤ off)) full_scale }
 {
     let moved = sum(eta as i128, vel as i128);
-    let whole = sum(product(ONE, moved), product(k2, off));
+    let whole = sum(product(FULL_SCALE, moved), product(k2, off));
     floor_div(whole, Q)
 }
 
@@ -30,7 +27,10 @@ pub(crate) fn bias_next(leak: i64, k3: i64, beta: i64, off: i128) -> i128
     ensures { let kept = (full_scale *ℤ beta) -ℤ (leak *ℤ beta) in
         result ≡ floor_of (kept +ℤ (k3 *ℤ off)) full_scale }
 {
-    let kept = difference(product(ONE, beta as i128), product(leak, beta as i128));
+    let kept = difference(
+        product(FULL_SCALE, beta as i128),
+        product(leak, beta as i128),
+    );
     let whole = sum(kept, product(k3, off));
     floor_div(whole, Q)
 }
@@ -43,8 +43,8 @@ fn coasted(damp: i64, beta: i64, vel: i64) -> i128
     ensures value { result ≡ ((full_scale *ℤ vel) -ℤ (damp *ℤ vel)) +ℤ (full_scale *ℤ beta) }
     ensures bound { unsigned_abs result ≤ 2 ^ 90 }
 {
-    let kept = difference(product(ONE, vel as i128), product(damp, vel as i128));
-    sum(kept, product(ONE, beta as i128))
+    let kept = difference(product(FULL_SCALE, vel as i128), product(damp, vel as i128));
+    sum(kept, product(FULL_SCALE, beta as i128))
 }
 
 /// A velocity, which is damped, and driven by the bias, by what pushes, times the scale, and by its share of how far the place is off.

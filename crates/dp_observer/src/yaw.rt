@@ -14,13 +14,44 @@ use dp_plant::{YawGains, YawState};
 /// 360 degrees in nanodegrees.
 const TURN: i128 = 360_000_000_000;
 
-/// A heading in nanodegrees.
-fn nanodegrees(h: u32) -> i128
-    requires { IsMeasuredHeading h }
-    ensures value { result ≡ pos (h * 10 ^ 7) }
-    ensures bound { unsigned_abs result ≤ 2 ^ 39 }
+/// Takes one cycle: the measured heading in hundredths of a degree, if there is one, and what pushes in yaw, the demand and the wind
+/// together, in nanodegrees per cycle squared, positive clockwise. Where a coordinate would leave the limit, the state stays as it is.
+pub fn update(x: &mut YawState, gains: &YawGains, h: Option<u32>, push: i64) -> Result<(), Diverged>
+    requires gains { IsYawGains gains.now }
+    requires state { IsYawWithin x.old }
+    requires heading { IfSome h (λ n. IsMeasuredHeading n) }
+    requires push { IsYawPush push }
+    ensures ok { OnOk result (x.new ≡ yaw_next gains.now x.old h push) }
+    ensures err { OnErr result (x.new ≡ x.old) }
+    ensures diverged { IsOk result ↔ IsYawWithin (yaw_next gains.now x.old h push) }
 {
-    h as i128 * 10_000_000
+    let Some(heading) = h else {
+        return Ok(());
+    };
+    match next(x, gains, heading, push) {
+        Some(later) => {
+            *x = later;
+            Ok(())
+        }
+        None => Err(Diverged),
+    }
+}
+
+/// A cycle later, where each coordinate stays within the limit.
+#[tactic(auto, using(crate::proofs::YawShares::shares))]
+fn next(x: &YawState, gains: &YawGains, h: u32, push: i64) -> Option<YawState>
+    requires gains { IsYawGains gains.now }
+    requires state { IsYawWithin x.now }
+    requires heading { IsMeasuredHeading h }
+    requires push { IsYawPush push }
+    ensures { let later = yaw_next gains.now x.now (Some h) push in
+        SomeIff result (IsYawWithin later) later }
+{
+    let off = offset(x, h);
+    let psi = turned(place_next(gains.k2, x.psi, x.rate, off));
+    let beta = bias_next(gains.leak, gains.k3, x.beta, off);
+    let rate = velocity_next(gains.damp, gains.k4, x.beta, x.rate, scaled_push(push), off);
+    within(psi, beta, rate)
 }
 
 /// How far the measured heading is from the estimate, the nearer way round.
@@ -31,6 +62,15 @@ fn offset(x: &YawState, h: u32) -> i128
     ensures bound { unsigned_abs result ≤ 2 ^ 38 }
 {
     wrap(difference(nanodegrees(h), x.psi as i128), TURN)
+}
+
+/// A heading in nanodegrees.
+fn nanodegrees(h: u32) -> i128
+    requires { IsMeasuredHeading h }
+    ensures value { result ≡ pos (h * 10 ^ 7) }
+    ensures bound { unsigned_abs result ≤ 2 ^ 39 }
+{
+    h as i128 * 10_000_000
 }
 
 /// A heading, brought to the turn from 0 on.
@@ -61,44 +101,4 @@ fn within(psi: i128, beta: i128, rate: i128) -> Option<YawState>
         beta: coordinate(beta)?,
         rate: coordinate(rate)?,
     })
-}
-
-/// A cycle later, where each coordinate stays within the limit.
-#[tactic(auto, using(crate::proofs::YawShares::shares))]
-fn next(x: &YawState, gains: &YawGains, h: u32, push: i64) -> Option<YawState>
-    requires gains { IsYawGains gains.now }
-    requires state { IsYawWithin x.now }
-    requires heading { IsMeasuredHeading h }
-    requires push { IsYawPush push }
-    ensures { let later = yaw_next gains.now x.now (Some h) push in
-        SomeIff result (IsYawWithin later) later }
-{
-    let off = offset(x, h);
-    let psi = turned(place_next(gains.k2, x.psi, x.rate, off));
-    let beta = bias_next(gains.leak, gains.k3, x.beta, off);
-    let rate = velocity_next(gains.damp, gains.k4, x.beta, x.rate, scaled_push(push), off);
-    within(psi, beta, rate)
-}
-
-/// Takes one cycle: the measured heading in hundredths of a degree, if there is one, and what pushes in yaw, the demand and the wind
-/// together, in nanodegrees per cycle squared, positive clockwise. Where a coordinate would leave the limit, the state stays as it is.
-pub fn update(x: &mut YawState, gains: &YawGains, h: Option<u32>, push: i64) -> Result<(), Diverged>
-    requires gains { IsYawGains gains.now }
-    requires state { IsYawWithin x.old }
-    requires heading { IfSome h (λ n. IsMeasuredHeading n) }
-    requires push { IsYawPush push }
-    ensures ok { OnOk result (x.new ≡ yaw_next gains.now x.old h push) }
-    ensures err { OnErr result (x.new ≡ x.old) }
-    ensures diverged { IsOk result ↔ IsYawWithin (yaw_next gains.now x.old h push) }
-{
-    let Some(heading) = h else {
-        return Ok(());
-    };
-    match next(x, gains, heading, push) {
-        Some(later) => {
-            *x = later;
-            Ok(())
-        }
-        None => Err(Diverged),
-    }
 }

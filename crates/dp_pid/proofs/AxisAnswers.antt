@@ -8,7 +8,8 @@ use Rattle.dp_plant.specs.Yaw.{asked_turn_of, issued_turn_of}
 use Rattle.dp_pid.specs.declared.axis.Along.{Along}
 use Rattle.dp_pid.specs.declared.axis.Answer.{Answer}
 use Rattle.dp_pid.specs.declared.axis.Axis.{Axis}
-use Rattle.dp_pid.specs.Axis.{IsInRange, IsPlaneAnswer, IsYawAnswer, asked_along, asked_of_plane, asked_of_yaw, is_limited, scaled_twice}
+use Rattle.dp_plant.specs.Cases.{IsInRange}
+use Rattle.dp_pid.specs.Axis.{IsPlaneAnswer, IsYawAnswer, asked_along, asked_of_plane, asked_of_yaw, is_limited, times_scale_twice}
 
 pub asked_is : (axis : Axis) (limit wind : ℤ) (along : Along) (s h d r : ℤ) → s ≡ neg_ℤ (axis.kp *ℤ along.error) -ℤ (axis.kd *ℤ along.velocity)
     → h ≡ full_scale *ℤ clamp_of along.bias (neg_ℤ limit) limit → d ≡ s -ℤ h → r ≡ d -ℤ wind → r ≡ asked_along axis limit wind along
@@ -16,7 +17,7 @@ asked_is axis limit wind along s h d r spring held against is =
     is ∙ ap (λ (z : ℤ). z -ℤ wind) (against ∙ ap (λ (z : ℤ). z -ℤ h) spring
     ∙ ap (λ (z : ℤ). (neg_ℤ (axis.kp *ℤ along.error) -ℤ (axis.kd *ℤ along.velocity)) -ℤ z) held)
 
-pub asked_plane_is : (axis : Axis) (along : Along) (wind limit push r : ℤ) → limit ≡ full_scale *ℤ axis.bias → push ≡ scaled_twice wind
+pub asked_plane_is : (axis : Axis) (along : Along) (wind limit push r : ℤ) → limit ≡ full_scale *ℤ axis.bias → push ≡ times_scale_twice wind
     → r ≡ asked_along axis limit push along → r ≡ asked_of_plane axis along wind
 unfolding asked_of
 asked_plane_is axis along wind limit push r is_limit is_push is =
@@ -27,13 +28,13 @@ pub asked_yaw_is : (axis : Axis) (along : Along) (wind push r : ℤ) → push �
 unfolding asked_turn_of
 asked_yaw_is axis along wind push r is_push is = is ∙ ap (λ (z : ℤ). asked_along axis axis.bias z along) is_push
 
-pub plane_answer_is : (axis : Axis) (asked lo hi value demand : ℤ) (limited : Bool) → lo ≡ scaled_twice axis.lo → hi ≡ scaled_twice axis.hi
+pub plane_answer_is : (axis : Axis) (asked lo hi value demand : ℤ) (limited : Bool) → lo ≡ times_scale_twice axis.lo → hi ≡ times_scale_twice axis.hi
     → value ≡ clamp_of asked lo hi → limited ≡ is_limited asked lo hi → demand ≡ floor_of value full_scale_squared → IsInRange axis.lo axis.hi demand
     → IsPlaneAnswer axis asked (record { demand = demand; limited = limited })
 unfolding issued_of
 plane_answer_is axis asked lo hi value demand limited is_lo is_hi is_value is_limited_so is_demand range = record {
-  demand = is_demand ∙ ap (λ (z : ℤ). floor_of z full_scale_squared) (is_value ∙ ap (λ (z : ℤ). clamp_of asked z hi) is_lo ∙ ap (λ (z : ℤ). clamp_of asked (scaled_twice axis.lo) z) is_hi);
-  limited = is_limited_so ∙ ap (λ (z : ℤ). is_limited asked z hi) is_lo ∙ ap (λ (z : ℤ). is_limited asked (scaled_twice axis.lo) z) is_hi;
+  demand = is_demand ∙ ap (λ (z : ℤ). floor_of z full_scale_squared) (is_value ∙ ap (λ (z : ℤ). clamp_of asked z hi) is_lo ∙ ap (λ (z : ℤ). clamp_of asked (times_scale_twice axis.lo) z) is_hi);
+  limited = is_limited_so ∙ ap (λ (z : ℤ). is_limited asked z hi) is_lo ∙ ap (λ (z : ℤ). is_limited asked (times_scale_twice axis.lo) z) is_hi;
   range = range;
 }
 

@@ -1,5 +1,5 @@
 -- The answers of surge, sway and yaw, put together.
-use Rattle.std.proofs.Common.{◌≡◌, ap, sym, subst, ◌∙◌, ◌^◌, ℕ, ◌≤◌, List, [], ◌∷◌, Bool, ℤ, pos, neg_ℤ, ◌≤ℤ◌, unsigned_abs, arith}
+use Rattle.std.proofs.Common.{◌≡◌, ap, sym, subst, ◌∙◌, ℕ, ◌≤◌, List, [], ◌∷◌, Bool, ℤ, unsigned_abs, arith}
 use Rattle.std.proofs.lemmas.Int.{ints}
 use Rattle.dp_plant.specs.declared.gains.Gains.{Gains}
 use Rattle.dp_plant.specs.declared.gains.YawGains.{YawGains}
@@ -14,8 +14,9 @@ use Rattle.dp_plant.specs.Yaw.{asked_yaw}
 use Rattle.dp_plant.specs.YawRanges.{IsYawBox}
 use Rattle.dp_pid.specs.declared.axis.Along.{Along}
 use Rattle.dp_pid.specs.declared.axis.Answer.{Answer}
-use Rattle.dp_pid.specs.Asked.{AreDemands, IsInBox, demands_of, limited_of}
-use Rattle.dp_pid.specs.Axis.{IsInRange, IsPlaneAnswer, IsYawAnswer, asked_of_plane, asked_of_yaw}
+use Rattle.dp_pid.specs.Asked.{AreDemands, demands_of, limited_of}
+use Rattle.dp_plant.specs.Cases.{IsInBox, IsInRange}
+use Rattle.dp_pid.specs.Axis.{IsPlaneAnswer, IsYawAnswer, asked_of_plane, asked_of_yaw}
 use Rattle.dp_pid.specs.Body.{plane_axis, surge_of, sway_of, yaw_axis, yaw_of}
 
 -- what is along surge is the state's

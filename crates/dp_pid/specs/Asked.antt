@@ -10,7 +10,7 @@ use Rattle.dp_plant.specs.declared.yaw.YawState.{YawState}
 use Rattle.dp_plant.specs.Law.{asked_surge, asked_sway, plane_demand}
 use Rattle.dp_plant.specs.Vectors.{entry}
 use Rattle.dp_plant.specs.Yaw.{asked_yaw, yaw_demand}
-use Rattle.dp_pid.specs.Axis.{IsInRange, is_limited, scaled_twice}
+use Rattle.dp_pid.specs.Axis.{is_limited, times_scale_twice}
 
 -- the demands on surge, sway and yaw
 abbrev pub demands_of : Gains → YawGains → Box3 → PlaneState → YawState → Setpoint → ℤ × ℤ → List ℤ
@@ -24,18 +24,12 @@ demands_of g y box plane yaw setpoint pair wind =
 abbrev pub limited_of : Gains → YawGains → Box3 → PlaneState → YawState → Setpoint → ℤ × ℤ → List ℤ
     → List Bool
 limited_of g y box plane yaw setpoint pair wind =
-    is_limited (asked_surge g setpoint pair wind plane) (scaled_twice (entry box.lo 0))
-    (scaled_twice (entry box.hi 0))
-    ∷ is_limited (asked_sway g setpoint pair wind plane) (scaled_twice (entry box.lo 1))
-    (scaled_twice (entry box.hi 1))
+    is_limited (asked_surge g setpoint pair wind plane) (times_scale_twice (entry box.lo 0))
+    (times_scale_twice (entry box.hi 0))
+    ∷ is_limited (asked_sway g setpoint pair wind plane) (times_scale_twice (entry box.lo 1))
+    (times_scale_twice (entry box.hi 1))
     ∷ is_limited (asked_yaw y setpoint wind yaw) (full_scale *ℤ entry box.lo 2)
     (full_scale *ℤ entry box.hi 2) ∷ []
-
--- each demand is in its range of the box
-pub record IsInBox (box : Box3) (a : List ℤ) : Type 0 where
-  pub surge : IsInRange (entry box.lo 0) (entry box.hi 0) (entry a 0)
-  pub sway : IsInRange (entry box.lo 1) (entry box.hi 1) (entry a 1)
-  pub yaw : IsInRange (entry box.lo 2) (entry box.hi 2) (entry a 2)
 
 -- the demands are within 2^31 of zero, in yaw within 2^38
 pub record AreDemands (a : List ℤ) : Type 0 where

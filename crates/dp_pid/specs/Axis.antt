@@ -5,6 +5,7 @@ use Rattle.std.specs.Prelude.{◌≡◌, ◌≤◌, ◌^◌, Bool, not, ℤ, pos
 use Rattle.std.specs.Ordering.{int_eq}
 use Rattle.dp_fixed.specs.Scale.{full_scale}
 use Rattle.dp_fixed.specs.Order.{clamp_of}
+use Rattle.dp_plant.specs.Cases.{IsInRange}
 use Rattle.dp_plant.specs.Law.{asked_of, issued_of}
 use Rattle.dp_plant.specs.Ranges.{IsShare}
 use Rattle.dp_plant.specs.Yaw.{asked_turn_of, issued_turn_of}
@@ -35,8 +36,8 @@ abbrev pub is_limited : ℤ → ℤ → ℤ → Bool
 is_limited asked lo hi = not (int_eq (clamp_of asked lo hi) asked)
 
 -- times the square of the scale
-abbrev pub scaled_twice : ℤ → ℤ
-scaled_twice x = full_scale *ℤ (full_scale *ℤ x)
+abbrev pub times_scale_twice : ℤ → ℤ
+times_scale_twice x = full_scale *ℤ (full_scale *ℤ x)
 
 -- the gains of an axis are shares; its range holds zero; bias and range are within a limit of zero
 pub record IsAxis (limit : ℤ) (a : Axis) : Type 0 where
@@ -49,15 +50,10 @@ pub record IsAxis (limit : ℤ) (a : Axis) : Type 0 where
   pub low : neg_ℤ limit ≤ℤ a.lo
   pub high : a.hi ≤ℤ limit
 
--- an axis's demand is in its range
-pub record IsInRange (lo hi a : ℤ) : Type 0 where
-  pub low : lo ≤ℤ a
-  pub high : a ≤ℤ hi
-
 -- the answer of surge or sway to what is asked
 pub record IsPlaneAnswer (axis : Axis) (asked : ℤ) (a : Answer) : Type 0 where
   pub demand : a.demand ≡ issued_of asked axis.lo axis.hi
-  pub limited : a.limited ≡ is_limited asked (scaled_twice axis.lo) (scaled_twice axis.hi)
+  pub limited : a.limited ≡ is_limited asked (times_scale_twice axis.lo) (times_scale_twice axis.hi)
   pub range : IsInRange axis.lo axis.hi a.demand
 
 -- the answer of yaw to what is asked

@@ -4,10 +4,7 @@ use Rattle.dp_fixed.specs.Division.{floor_of}
 use Rattle.dp_fixed.specs.Order.{clamp_of}
 use Rattle.dp_plant.specs.declared.frames.Gust.{Gust}
 use Rattle.dp_plant.specs.declared.wind.WindTable.{WindTable}
-use Rattle.dp_plant.specs.Vectors.{entry}
-
-abbrev pub three_zeros : List ℤ
-three_zeros = pos 0 ∷ pos 0 ∷ pos 0 ∷ []
+use Rattle.dp_plant.specs.Vectors.{entry, three_zeros}
 
 -- by a number of the table, over 2^20, and the speed in mm/s
 abbrev pub pushed_by : ℤ → ℤ → ℤ

@@ -18,6 +18,31 @@ pub(crate) struct Body {
     pub sway: Along,
 }
 
+/// What the plane's state is along surge and sway, each part times the scale.
+pub(crate) fn in_body(setpoint: &Setpoint, pair: (i64, i64), x: &PlaneState) -> Body
+    requires setpoint { IsPlaneSetpoint setpoint.now }
+    requires pair { IsPair pair }
+    requires state { IsPlaneWithin x.now }
+    ensures surge { result.surge ≡ surge_of setpoint.now pair x.now }
+    ensures sway { result.sway ≡ sway_of setpoint.now pair x.now }
+    ensures surge_within { IsAlongWithin result.surge }
+    ensures sway_within { IsAlongWithin result.sway }
+{
+    let error = offset(setpoint.at, x.eta);
+    Body {
+        surge: Along {
+            error: along_surge(pair, error),
+            velocity: along_surge(pair, x.vel),
+            bias: along_surge(pair, x.beta),
+        },
+        sway: Along {
+            error: along_sway(pair, error),
+            velocity: along_sway(pair, x.vel),
+            bias: along_sway(pair, x.beta),
+        },
+    }
+}
+
 /// What is between two places.
 fn offset(from: Place, to: Place) -> Place
     requires from { IsVectorWithin (2 ^ 43) from }
@@ -57,31 +82,6 @@ fn along_sway(pair: (i64, i64), v: Place) -> i128
         product(pair.0, v.east as i128),
         product(pair.1, v.north as i128),
     )
-}
-
-/// What the plane's state is along surge and sway, each part times the scale.
-pub(crate) fn in_body(setpoint: &Setpoint, pair: (i64, i64), x: &PlaneState) -> Body
-    requires setpoint { IsPlaneSetpoint setpoint.now }
-    requires pair { IsPair pair }
-    requires state { IsPlaneWithin x.now }
-    ensures surge { result.surge ≡ surge_of setpoint.now pair x.now }
-    ensures sway { result.sway ≡ sway_of setpoint.now pair x.now }
-    ensures surge_within { IsAlongWithin result.surge }
-    ensures sway_within { IsAlongWithin result.sway }
-{
-    let error = offset(setpoint.at, x.eta);
-    Body {
-        surge: Along {
-            error: along_surge(pair, error),
-            velocity: along_surge(pair, x.vel),
-            bias: along_surge(pair, x.beta),
-        },
-        sway: Along {
-            error: along_sway(pair, error),
-            velocity: along_sway(pair, x.vel),
-            bias: along_sway(pair, x.beta),
-        },
-    }
 }
 
 /// What yaw's state is: the error is the nearer way round.

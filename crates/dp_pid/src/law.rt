@@ -1,7 +1,7 @@
 //! What the control law demands of the three axes.
 ghost use Rattle.std.specs.Prelude.{◌≡◌, ◌≤◌, ◌<◌, ◌^◌, [], ◌∷◌, unsigned_abs};
-ghost use Rattle.dp_plant.specs.{IsLawGains, IsPair, IsPlaneBox, IsPlaneSetpoint, IsPlaneWithin, IsYawBox, IsYawGains, IsYawSetpoint, IsYawWithin};
-ghost use Rattle.dp_pid.specs.Asked.{AreDemands, IsInBox, demands_of, limited_of};
+ghost use Rattle.dp_plant.specs.{IsInBox, IsLawGains, IsPair, IsPlaneBox, IsPlaneSetpoint, IsPlaneWithin, IsYawBox, IsYawGains, IsYawSetpoint, IsYawWithin};
+ghost use Rattle.dp_pid.specs.Asked.{AreDemands, demands_of, limited_of};
 ghost use Rattle.dp_pid.specs.Axis.{IsAlongWithin, IsPlaneAnswer, IsYawAnswer, asked_of_plane, asked_of_yaw};
 ghost use Rattle.dp_pid.specs.Body.{plane_axis, yaw_axis};
 ghost use Rattle.dp_pid.specs.WindPush.{IsWindPush};
@@ -15,69 +15,6 @@ use dp_plant::{Box3, Gains, PlaneState, Setpoint, YawGains, YawState};
 pub struct Asked {
     pub a: [i64; 3],
     pub limited: [bool; 3],
-}
-
-/// The gains and the range of surge, axis 0, or sway, axis 1.
-fn plane_axis(g: &Gains, b: &Box3, j: usize) -> Axis
-    requires { j < 2 }
-    ensures { result ≡ plane_axis g.now b.now j }
-{
-    Axis {
-        kp: g.kp[j],
-        kd: g.kd[j],
-        bias: g.bias[j],
-        lo: b.lo[j],
-        hi: b.hi[j],
-    }
-}
-
-fn yaw_axis(y: &YawGains, b: &Box3) -> Axis
-    ensures { result ≡ yaw_axis y.now b.now }
-{
-    Axis {
-        kp: y.kp,
-        kd: y.kd,
-        bias: y.bias,
-        lo: b.lo[2],
-        hi: b.hi[2],
-    }
-}
-
-/// The answer of surge, axis 0, or sway, axis 1.
-fn plane_answer(g: &Gains, b: &Box3, j: usize, along: Along, wind: i64) -> Answer
-    requires gains { IsLawGains g.now }
-    requires limits { IsPlaneBox b.now }
-    requires axis { j < 2 }
-    requires along { IsAlongWithin along }
-    requires wind { unsigned_abs wind ≤ 2 ^ 31 }
-    ensures { let axis = plane_axis g.now b.now j in
-        IsPlaneAnswer axis (asked_of_plane axis along wind) result }
-{
-    let axis = plane_axis(g, b, j);
-    axis.on_plane(along, wind)
-}
-
-/// The answer of yaw.
-fn yaw_answer(y: &YawGains, b: &Box3, along: Along, wind: i64) -> Answer
-    requires gains { IsYawGains y.now }
-    requires limits { IsYawBox b.now }
-    requires along { IsAlongWithin along }
-    requires wind { unsigned_abs wind ≤ 2 ^ 31 }
-    ensures { let axis = yaw_axis y.now b.now in
-        IsYawAnswer axis (asked_of_yaw axis along wind) result }
-{
-    let axis = yaw_axis(y, b);
-    axis.in_yaw(along, wind)
-}
-
-fn together(surge: Answer, sway: Answer, yaw: Answer) -> Asked
-    ensures a { result.a ≡ surge.demand ∷ sway.demand ∷ yaw.demand ∷ [] }
-    ensures limited { result.limited ≡ surge.limited ∷ sway.limited ∷ yaw.limited ∷ [] }
-{
-    Asked {
-        a: [surge.demand, sway.demand, yaw.demand],
-        limited: [surge.limited, sway.limited, yaw.limited],
-    }
 }
 
 /// What is demanded by the state before the cycle's update: `pair` is the sine pair of the heading, and `wind` what the wind pushes on
@@ -114,4 +51,67 @@ pub fn issue(
     let sway = plane_answer(g, b, 1, body.sway, wind[1]);
     let turning = yaw_answer(y, b, turn, wind[2]);
     together(surge, sway, turning)
+}
+
+/// The answer of surge, axis 0, or sway, axis 1.
+fn plane_answer(g: &Gains, b: &Box3, j: usize, along: Along, wind: i64) -> Answer
+    requires gains { IsLawGains g.now }
+    requires limits { IsPlaneBox b.now }
+    requires axis { j < 2 }
+    requires along { IsAlongWithin along }
+    requires wind { unsigned_abs wind ≤ 2 ^ 31 }
+    ensures { let axis = plane_axis g.now b.now j in
+        IsPlaneAnswer axis (asked_of_plane axis along wind) result }
+{
+    let axis = plane_axis(g, b, j);
+    axis.on_plane(along, wind)
+}
+
+/// The gains and the range of surge, axis 0, or sway, axis 1.
+fn plane_axis(g: &Gains, b: &Box3, j: usize) -> Axis
+    requires { j < 2 }
+    ensures { result ≡ plane_axis g.now b.now j }
+{
+    Axis {
+        kp: g.kp[j],
+        kd: g.kd[j],
+        bias: g.bias[j],
+        lo: b.lo[j],
+        hi: b.hi[j],
+    }
+}
+
+/// The answer of yaw.
+fn yaw_answer(y: &YawGains, b: &Box3, along: Along, wind: i64) -> Answer
+    requires gains { IsYawGains y.now }
+    requires limits { IsYawBox b.now }
+    requires along { IsAlongWithin along }
+    requires wind { unsigned_abs wind ≤ 2 ^ 31 }
+    ensures { let axis = yaw_axis y.now b.now in
+        IsYawAnswer axis (asked_of_yaw axis along wind) result }
+{
+    let axis = yaw_axis(y, b);
+    axis.in_yaw(along, wind)
+}
+
+fn yaw_axis(y: &YawGains, b: &Box3) -> Axis
+    ensures { result ≡ yaw_axis y.now b.now }
+{
+    Axis {
+        kp: y.kp,
+        kd: y.kd,
+        bias: y.bias,
+        lo: b.lo[2],
+        hi: b.hi[2],
+    }
+}
+
+fn together(surge: Answer, sway: Answer, yaw: Answer) -> Asked
+    ensures a { result.a ≡ surge.demand ∷ sway.demand ∷ yaw.demand ∷ [] }
+    ensures limited { result.limited ≡ surge.limited ∷ sway.limited ∷ yaw.limited ∷ [] }
+{
+    Asked {
+        a: [surge.demand, sway.demand, yaw.demand],
+        limited: [surge.limited, sway.limited, yaw.limited],
+    }
 }

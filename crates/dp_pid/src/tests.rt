@@ -1,11 +1,13 @@
-//! Demands of the built-in plant's gains and box, but for sway's own gains; the values come from a separate program in Python.
+//! Demands of the sample plant's gains and box, but for sway's own gains; the values come from a separate program in Python.
 ghost use Rattle.std.specs.Prelude.{◌<◌};
 ghost use Rattle.dp_plant.specs.{IsLawGains, IsPair, IsPlaneBox, IsPlaneSetpoint, IsPlaneWithin, IsYawBox, IsYawGains, IsYawSetpoint, IsYawWithin};
 ghost use Rattle.dp_pid.specs.{IsWindPush};
 
 use crate::{Asked, issue, wind_push};
-use dp_plant::{Box3, Gains, Place, PlaneState, Setpoint, YawGains, YawState, p0};
+use dp_plant::samples::{S1, text_of};
+use dp_plant::{Box3, Gains, Place, PlaneState, Plant, Setpoint, YawGains, YawState, plant_of};
 use std::process::Abort;
+use std::test::Fail;
 
 fn gains() -> Gains
     ensures { IsLawGains result }
@@ -239,18 +241,26 @@ fn damps_what_moves(rt: HostRuntime) {
     check(&rt, &plane, &yaw, &setpoint, pair, wind, (want, NONE));
 }
 
-#[tactic(auto, using(crate::proofs::WindRows::built_in_shares), unfolding(dp_plant::specs::BuiltInPlant::built_in_plant))]
-fn check_wind(rt: &impl Abort, angle: u32, speed: u32, want: [i64; 3])
+#[tactic(auto, using(dp_plant::proofs::PlantFacts::plant_wind))]
+fn check_wind(rt: &impl Abort, plant: &Plant, angle: u32, speed: u32, want: [i64; 3])
     requires angle { angle < 36000 }
     requires speed { speed < 100000 }
 {
-    let plant = p0();
     assert_eq!(rt; wind_push(&plant.wind, angle, speed), want);
 }
 
 #[test]
-fn takes_the_row_of_the_angle(rt: HostRuntime) {
-    check_wind(&rt, 4500, 5144, [-3_280_541, -4_037_588, 0]);
-    check_wind(&rt, 2999, 5144, [-4_542_287, -1_514_096, 0]);
-    check_wind(&rt, 35_999, 99_999, [-1_716_579_438, 572_193_145, 0]);
+fn takes_the_row_of_the_angle(rt: HostRuntime) -> Result<(), Fail> {
+    let text = text_of(rt.alloc(), S1)?;
+    let plant = plant_of(rt.alloc(), text.as_bytes())?;
+    check_wind(&rt, &plant, 4500, 5144, [-3_280_541, -4_037_588, 0]);
+    check_wind(&rt, &plant, 2999, 5144, [-4_542_287, -1_514_096, 0]);
+    check_wind(
+        &rt,
+        &plant,
+        35_999,
+        99_999,
+        [-1_716_579_438, 572_193_145, 0],
+    );
+    Ok(())
 }

@@ -1,5 +1,5 @@
 -- Numbers within the bounds at their places.
-use Rattle.std.proofs.Common.{◌≡◌, List, [], ◌∷◌, length, true, ◌&&◌, arith, ℤ, pos, ◌≤ℤ◌, get_or}
+use Rattle.std.proofs.Common.{◌≡◌, List, [], ◌∷◌, length, true, ◌&&◌, arith, ℤ, ◌≤ℤ◌}
 use Rattle.std.specs.Prelude.{int_le}
 use Rattle.std.proofs.lemmas.Int.{ints}
 use Rattle.std.proofs.lemmas.Bool.{and_parts}

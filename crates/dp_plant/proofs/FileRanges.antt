@@ -1,23 +1,18 @@
--- A plant that the table of keys gives is within the ranges of the file.
-use Rattle.std.proofs.Common.{◌≡◌, ℕ, zero, suc, ◌+◌, ◌-◌, ◌^◌, ◌≤◌, ◌<◌, List, [], ◌∷◌, ◌++◌, length, Bool, true, false, ◌&&◌, nat_le, if◌then◌else◌, Option, Some, None, Result, Ok, Err, refl, sym, ap, subst, ◌∙◌, arith, ℤ, pos, neg_ℤ, ◌*ℤ◌, ◌≤ℤ◌, ◌<ℤ◌, codes, map}
-use Rattle.std.specs.Prelude.{unsigned_abs, All, IfOk, option_and_then, option_map, replicate}
+-- What the table of keys reads of vessel, references, wind and thrusters is within the ranges of the file.
+use Rattle.std.proofs.Common.{◌≡◌, ℕ, zero, suc, ◌+◌, ◌-◌, ◌^◌, ◌≤◌, ◌<◌, List, [], ◌∷◌, length, Bool, true, false, ◌&&◌, nat_le, if◌then◌else◌, Option, Some, None, Result, Ok, Err, refl, sym, ap, subst, ◌∙◌, arith, ℤ, pos, neg_ℤ, ◌*ℤ◌, ◌≤ℤ◌, ◌<ℤ◌, codes}
+use Rattle.std.specs.Prelude.{unsigned_abs, All, option_and_then, option_map, replicate}
 use Rattle.std.specs.List.{list_all}
 use Rattle.std.proofs.lemmas.Int.{ints}
 use Rattle.std.proofs.lemmas.Bool.{and_parts, leb-true}
-use Rattle.std.proofs.lemmas.List.Elements.{All-nil, All-cons, All-push, All-map}
+use Rattle.std.proofs.lemmas.List.{get_or_past}
+use Rattle.std.proofs.lemmas.List.Elements.{All-nil, All-cons}
 use Rattle.toml.specs.Data.{Data, Items, no_items, item, as_array, as_integer}
-use Rattle.dp_plant.specs.Keys.{◌>>=◌, AreBetween, Fault, Gives, Section, about, all_some, are_within, between as from_to, count, count_at, down_to, each_from, found, indexed, is_within, listed, number_at, numbers_at, of_kind, plain, rows, rows_at, tables, tables_at, up_to, whole_at, wholes, wholes_at}
-use Rattle.dp_plant.specs.PlantFile.{CertData, PartsData, PlantData, of_three, of_five, all_there, case_at, cases_after, cases_at, cert_at, gains_at, has_case, lists_of_five, lists_of_three, lost_at, parts_at, parts_view, plant_at, plant_view, ref_at, refs_at, setpoint_of, single_masks, spot, thruster_at, thrusters_at, vessel_at, waves_at, wind_at, yaw_at}
-use Rattle.dp_plant.specs.SoundPlant.{AreRefLimits, AreWindShares, IsCaseWithin, IsLever, IsOfVersion, IsOriginWithin, IsPlantWithin, IsSetpointWithin, IsThrusterWithin}
+use Rattle.dp_plant.specs.Keys.{◌>>=◌, AreBetween, Fault, Section, about, all_some, are_within, between as from_to, count, count_at, down_to, each_from, found, indexed, is_within, listed, number_at, numbers_at, of_kind, plain, rows, rows_at, tables, tables_at, up_to, whole_at, wholes, wholes_at}
+use Rattle.dp_plant.specs.PlantFile.{ref_at, refs_at, setpoint_of, spot, thruster_at, thrusters_at, vessel_at, wind_at}
+use Rattle.dp_plant.specs.PlantRanges.{AreMasses, AreRefLimits, AreWindShares, IsLever, IsMass, IsOriginWithin, IsSetpointWithin, IsThrusterWithin}
 use Rattle.dp_plant.specs.Vectors.{entry}
-use Rattle.dp_plant.specs.declared.cert.Parts.{Parts}
-use Rattle.dp_plant.specs.declared.cert.Parts.TheVariants.{Three, Five}
-use Rattle.dp_plant.specs.declared.fault.PlantFault.{PlantFault}
 use Rattle.dp_plant.specs.declared.file.references.Reference.{Reference}
 use Rattle.dp_plant.specs.declared.file.vessel.Vessel.{Vessel}
-use Rattle.dp_plant.specs.declared.gains.Gains.{Gains}
-use Rattle.dp_plant.specs.declared.plant.Plant.{Plant}
-use Rattle.dp_plant.specs.declared.thrusters.RawCase.{RawCase}
 use Rattle.dp_plant.specs.declared.thrusters.Thruster.{Thruster}
 use Rattle.dp_plant.specs.declared.wind.WindTable.{WindTable}
 use Rattle.dp_plant.proofs.Between.{between, both_from}
@@ -41,7 +36,7 @@ abbrev some_or : {A : Type 0} → A → Option A → A
 some_or z (Some x) = x
 some_or z None = z
 
-judged_ok : {A : Type 0} (b : Bool) (key : Fault) (x y : A) → (if b then good x else Err key) ≡ good y → (b ≡ true) × (x ≡ y)
+pub judged_ok : {A : Type 0} (b : Bool) (key : Fault) (x y : A) → (if b then good x else Err key) ≡ good y → (b ≡ true) × (x ≡ y)
 judged_ok true key x y h = (refl, ok_is x y h)
 judged_ok false key x y h = absurd (cc)
 
@@ -111,6 +106,14 @@ wholes_within s name bounds zs h =
     let (fits, same) = judged_ok (are_within bounds ys) _ ys zs last in
     subst (λ xs. AreBetween bounds (entry xs)) same (between bounds ys (wholes_long (length bounds) d ys shaped) fits)
 
+pub wholes_at_long : (s : Section) (name : List ℕ) (bounds : List (ℤ × ℤ)) (zs : List ℤ) → wholes_at s name bounds ≡ Ok zs → length zs ≡ length bounds
+unfolding wholes_at numbers_at
+wholes_at_long s name bounds zs h =
+    let (ys, (read, last)) = chain_ok (numbers_at s name (length bounds)) _ zs h in
+    let (d, shaped) = found_ok _ (wholes (length bounds)) _ ys read in
+    let (fits, same) = judged_ok (are_within bounds ys) _ ys zs last in
+    subst (λ xs. length xs ≡ length bounds) same (wholes_long (length bounds) d ys shaped)
+
 -- ---- lists of what is read
 
 module _ {A : Type 0} (P : A → Type 0) where
@@ -120,7 +123,7 @@ module _ {A : Type 0} (P : A → Type 0) where
   cons_each (Some x) None xs here rest h = absurd (cc)
   cons_each (Some x) (Some ys) xs here rest h = subst (All P) (ap (some_or []) h) (All-cons P x ys (here x refl) (rest ys refl))
 
-  all_each : (one : Data → Option A) → ((d : Data) (x : A) → one d ≡ Some x → P x) → (ds : Items) (xs : List A) → all_some one ds ≡ Some xs → All P xs
+  pub all_each : (one : Data → Option A) → ((d : Data) (x : A) → one d ≡ Some x → P x) → (ds : Items) (xs : List A) → all_some one ds ≡ Some xs → All P xs
   all_each one each no_items xs h = subst (All P) (ap (some_or []) h) (All-nil P)
   all_each one each (item d ds) xs h = cons_each (one d) (all_some one ds) xs (each d) (all_each one each ds) h
 
@@ -143,15 +146,14 @@ each_long one i (d ∷ ds) xs h =
     let e = each_long one (i + 1) ds ys rest in
     ap length (sym (ok_is (x ∷ ys) xs last)) ∙ omega (arith, e)
 
-pub tables_few : (document : Option Data) (name : List ℕ) (least most : ℕ) (ds : List Data) → tables_at document name least most ≡ Ok ds → length ds ≤ most
+pub tables_few : (document : Option Data) (name : List ℕ) (least most : ℕ) (ds : List Data) → tables_at document name least most ≡ Ok ds → (least ≤ length ds) × (length ds ≤ most)
 unfolding tables_at
 tables_few document name least most ds h =
     let (d, shaped) = found_ok name (tables least most) _ ds h in
     let (items, (read, fits)) = listed_ok least most _ d ds shaped in
     let long = all_long _ items ds read in
-    omega (arith, long, fits.1)
+    (omega (arith, long, fits.0), omega (arith, long, fits.1))
 
--- a row of three numbers, each within a limit of zero
 abs_within : (m : ℕ) (z : ℤ) → neg_ℤ (pos m) ≤ℤ z → z ≤ℤ pos m → unsigned_abs z ≤ m
 abs_within m z low high = omega (arith, ints, low, high)
 
@@ -165,8 +167,12 @@ three_within m (x ∷ []) long w axis = absurd (omega arith)
 three_within m (x ∷ y ∷ []) long w axis = absurd (omega arith)
 three_within m (x ∷ y ∷ z ∷ u ∷ row) long w axis = absurd (omega arith)
 
+-- a row of three numbers, each within a limit of zero
+abbrev IsRowWithin : ℕ → List ℤ → Type 0
+IsRowWithin m row = (length row ≡ 3) × ((axis : ℕ) → unsigned_abs (entry row axis) ≤ m)
+
 pub rows_within : (s : Section) (name : List ℕ) (n m : ℕ) (rs : List (List ℤ)) → rows_at s name n (about m ∷ about m ∷ about m ∷ []) ≡ Ok rs
-    → (length rs ≡ n) × All (λ row. (axis : ℕ) → unsigned_abs (entry row axis) ≤ m) rs
+    → (length rs ≡ n) × All (IsRowWithin m) rs
 unfolding rows_at
 rows_within s name n m rs h =
     let bounds = about m ∷ about m ∷ about m ∷ [] in
@@ -177,8 +183,8 @@ rows_within s name n m rs h =
     let wide = all_each (λ r. length r ≡ 3) (wholes 3) (wholes_long 3) items ys each in
     let (within, same) = judged_ok (list_all (are_within bounds) ys) _ ys rs last in
     let fit = fits_each (λ r. are_within bounds r ≡ true) (are_within bounds) (λ r e. e) ys within in
-    subst (λ xs. (length xs ≡ n) × All (λ row. (axis : ℕ) → unsigned_abs (entry row axis) ≤ m) xs) same
-    (omega (arith, long, fits.0, fits.1), λ k e lt. three_within m _ (wide k e lt) (between bounds _ (wide k e lt) (fit k e lt)))
+    subst (λ xs. (length xs ≡ n) × All (IsRowWithin m) xs) same
+    (omega (arith, long, fits.0, fits.1), λ k e lt. (wide k e lt, three_within m _ (wide k e lt) (between bounds _ (wide k e lt) (fit k e lt))))
 
 -- ---- the tables
 
@@ -197,29 +203,45 @@ setpoint_within zs w = record {
   heading = record { low = heading_low _ w.1.1.0.0; high = heading_high _ w.1.1.0.1 };
 }
 
-record IsVesselWithin (v : Vessel) : Type 0 where
-  version_low : 1 ≤ v.version
-  version_high : v.version ≤ 2
-  cycle_low : 100 ≤ v.cycle_ms
-  cycle_high : v.cycle_ms ≤ 10000
-  origin : IsOriginWithin v.origin
-  start : IsSetpointWithin v.start
-  setpoint : IsSetpointWithin v.setpoint
-  groups_low : 1 ≤ v.groups
-  groups_high : v.groups ≤ 8
+mass_within : (z : ℤ) → pos 0 ≤ℤ z → z ≤ℤ pos 1099511627776 → IsMass z
+mass_within z low high = record { low = low; high = omega (arith, ints, low, high) }
 
-vessel_within : (document : Option Data) (v : Vessel) → vessel_at document ≡ Ok v → IsVesselWithin v
+no_mass : IsMass (pos 0)
+no_mass = record { low = omega (arith, ints); high = omega (arith, ints) }
+
+-- past the end of an array there are zeros
+masses_within : (zs : List ℤ) → length zs ≡ 3 → AreBetween (replicate 3 (up_to 1099511627776)) (entry zs) → AreMasses zs
+masses_within zs long w zero = mass_within _ w.0.0 w.0.1
+masses_within zs long w (suc zero) = mass_within _ w.1.0.0 w.1.0.1
+masses_within zs long w (suc (suc zero)) = mass_within _ w.1.1.0.0 w.1.1.0.1
+masses_within zs long w (suc (suc (suc k))) = rw (get_or_past zs (suc (suc (suc k))) (pos 0) (omega arith)) no_mass
+
+pub record IsVesselWithin (v : Vessel) : Type 0 where
+  pub version_low : 1 ≤ v.version
+  pub version_high : v.version ≤ 2
+  pub cycle_low : 100 ≤ v.cycle_ms
+  pub cycle_high : v.cycle_ms ≤ 10000
+  pub origin : IsOriginWithin v.origin
+  pub start : IsSetpointWithin v.start
+  pub setpoint : IsSetpointWithin v.setpoint
+  pub groups_low : 1 ≤ v.groups
+  pub groups_high : v.groups ≤ 8
+  pub masses : AreMasses v.mass
+  pub tolerances : AreMasses v.tol
+
+pub vessel_within : (document : Option Data) (v : Vessel) → vessel_at document ≡ Ok v → IsVesselWithin v
 unfolding vessel_at
 vessel_within document v h =
     let s = plain document (codes "plant") in
+    let masses = replicate 3 (up_to 1099511627776) in
     let (version, (a, h1)) = chain_ok (count_at s (codes "version") (from_to 1 2)) _ v h in
     let (cycle, (c, h2)) = chain_ok (count_at s (codes "cycle_ms") (from_to 100 10000)) _ v h1 in
     let (origin, (o, h3)) = chain_ok (wholes_at s (codes "origin") (about 53400000000 ∷ about 108000000000 ∷ [])) _ v h2 in
     let (start, (b, h4)) = chain_ok (wholes_at s (codes "start") spot) _ v h3 in
     let (setpoint, (e, h5)) = chain_ok (wholes_at s (codes "setpoint") spot) _ v h4 in
     let (groups, (g, h6)) = chain_ok (count_at s (codes "groups") (from_to 1 8)) _ v h5 in
-    let (mass, (m, h7)) = chain_ok (wholes_at s (codes "mass") (replicate 3 (up_to 1099511627776))) _ v h6 in
-    let (tol, (t, h8)) = chain_ok (wholes_at s (codes "tol") (replicate 3 (up_to 1099511627776))) _ v h7 in
+    let (mass, (m, h7)) = chain_ok (wholes_at s (codes "mass") masses) _ v h6 in
+    let (tol, (t, h8)) = chain_ok (wholes_at s (codes "tol") masses) _ v h7 in
     let versions = count_within s (codes "version") 1 2 version a in
     let cycles = count_within s (codes "cycle_ms") 100 10000 cycle c in
     let counts = count_within s (codes "groups") 1 8 groups g in
@@ -234,14 +256,16 @@ vessel_within document v h =
       setpoint = setpoint_within setpoint (wholes_within s (codes "setpoint") spot setpoint e);
       groups_low = counts.0;
       groups_high = counts.1;
+      masses = masses_within mass (wholes_at_long s (codes "mass") masses mass m) (wholes_within s (codes "mass") masses mass m);
+      tolerances = masses_within tol (wholes_at_long s (codes "tol") masses tol t) (wholes_within s (codes "tol") masses tol t);
     })
 
 jump_within : (z : ℤ) → pos 0 ≤ℤ z → z ≤ℤ pos 1000000 → (pos 0 ≤ℤ (z *ℤ pos 1000000)) × ((z *ℤ pos 1000000) ≤ℤ pos (10 ^ 12))
 jump_within z low high = (omega (arith, ints, low), omega (arith, ints, high))
 
-record IsReferenceWithin (r : Reference) : Type 0 where
-  limits : AreRefLimits r.limits
-  lever : IsLever r.lever
+pub record IsReferenceWithin (r : Reference) : Type 0 where
+  pub limits : AreRefLimits r.limits
+  pub lever : IsLever r.lever
 
 ref_within : (i : ℕ) (d : Data) (r : Reference) → ref_at i d ≡ Ok r → IsReferenceWithin r
 unfolding ref_at
@@ -271,40 +295,58 @@ ref_within i d r h =
       lever = record { ahead = abs_within 500000 _ w.0.0 w.0.1; starboard = abs_within 500000 _ w.1.0.0 w.1.0.1 };
     })
 
-refs_within : (document : Option Data) (rs : List Reference) → refs_at document ≡ Ok rs → All IsReferenceWithin rs
+pub refs_within : (document : Option Data) (rs : List Reference) → refs_at document ≡ Ok rs → All IsReferenceWithin rs
 unfolding refs_at
 refs_within document rs h =
     let (ds, (t, last)) = chain_ok (tables_at document (codes "ref") 3 3) _ rs h in
     each_within IsReferenceWithin ref_at ref_within 0 ds rs last
 
-wind_within : (document : Option Data) (w : WindTable) → wind_at document ≡ Ok w → All AreWindShares w.push
+pub refs_three : (document : Option Data) (rs : List Reference) → refs_at document ≡ Ok rs → length rs ≡ 3
+unfolding refs_at
+refs_three document rs h =
+    let (ds, (t, last)) = chain_ok (tables_at document (codes "ref") 3 3) _ rs h in
+    let count = tables_few document (codes "ref") 3 3 ds t in
+    let long = each_long ref_at 0 ds rs last in
+    omega (arith, long, count.0, count.1)
+
+pub wind_within : (document : Option Data) (w : WindTable) → wind_at document ≡ Ok w → All AreWindShares w.push
 unfolding wind_at
 wind_within document w h =
     let s = plain document (codes "wind") in
     let (push, (p, last)) = chain_ok (rows_at s (codes "push") 12 (about 16777216 ∷ about 16777216 ∷ about 16777216 ∷ [])) _ w h in
-    subst (λ (x : WindTable). All AreWindShares x.push) (ok_is _ w last) (rows_within s (codes "push") 12 16777216 push p).1
+    let rows = rows_within s (codes "push") 12 16777216 push p in
+    subst (λ (x : WindTable). All AreWindShares x.push) (ok_is _ w last) (λ k e lt. (rows.1 k e lt).1)
 
-force_low : (z : ℤ) → neg_ℤ (pos 2147483648) ≤ℤ z → z ≤ℤ pos 0 → unsigned_abs z ≤ 2 ^ 31
+pub force_low : (z : ℤ) → neg_ℤ (pos 2147483648) ≤ℤ z → z ≤ℤ pos 0 → unsigned_abs z ≤ 2 ^ 31
 force_low z low high = omega (arith, ints, low, high)
 
-force_high : (z : ℤ) → pos 0 ≤ℤ z → z ≤ℤ pos 2147483648 → unsigned_abs z ≤ 2 ^ 31
+pub force_high : (z : ℤ) → pos 0 ≤ℤ z → z ≤ℤ pos 2147483648 → unsigned_abs z ≤ 2 ^ 31
 force_high z low high = omega (arith, ints, low, high)
 
-yaw_low : (z : ℤ) → neg_ℤ (pos 274877906944) ≤ℤ z → z ≤ℤ pos 0 → unsigned_abs z ≤ 2 ^ 38
+pub yaw_low : (z : ℤ) → neg_ℤ (pos 274877906944) ≤ℤ z → z ≤ℤ pos 0 → unsigned_abs z ≤ 2 ^ 38
 yaw_low z low high = omega (arith, ints, low, high)
 
-yaw_high : (z : ℤ) → pos 0 ≤ℤ z → z ≤ℤ pos 274877906944 → unsigned_abs z ≤ 2 ^ 38
+pub yaw_high : (z : ℤ) → pos 0 ≤ℤ z → z ≤ℤ pos 274877906944 → unsigned_abs z ≤ 2 ^ 38
 yaw_high z low high = omega (arith, ints, low, high)
 
-group_below : (group groups : ℕ) → groups ≤ 8 → group ≤ groups - 1 → group < 8
-group_below group groups few h = omega (arith, few, h)
+-- an arm of two numbers; past the end there are zeros
+arm_within : (zs : List ℤ) → length zs ≡ 2 → AreBetween (about 500000 ∷ about 500000 ∷ []) (entry zs) → (axis : ℕ) → unsigned_abs (entry zs axis) ≤ 500000
+arm_within zs long w zero = abs_within 500000 _ w.0.0 w.0.1
+arm_within zs long w (suc zero) = abs_within 500000 _ w.1.0.0 w.1.0.1
+arm_within zs long w (suc (suc k)) = rw (get_or_past zs (suc (suc k)) (pos 0) (omega arith)) (omega (arith, ints))
 
-thruster_within : (groups : ℕ) → groups ≤ 8 → (i : ℕ) (d : Data) (t : Thruster) → thruster_at groups i d ≡ Ok t → IsThrusterWithin t
+-- a thruster of one of the groups
+record IsOfGroups (groups : ℕ) (t : Thruster) : Type 0 where
+  within : IsThrusterWithin t
+  member : t.group < groups
+
+thruster_within : (groups : ℕ) → 1 ≤ groups → groups ≤ 8 → (i : ℕ) (d : Data) (t : Thruster) → thruster_at groups i d ≡ Ok t → IsOfGroups groups t
 unfolding thruster_at
-thruster_within groups few i d t h =
+thruster_within groups some few i d t h =
+    let arms = about 500000 ∷ about 500000 ∷ [] in
     let s = indexed (codes "thruster") i d in
     let (group, (a, h1)) = chain_ok (count_at s (codes "group") (up_to (groups - 1))) _ t h in
-    let (place, (b, h2)) = chain_ok (wholes_at s (codes "at") (about 500000 ∷ about 500000 ∷ [])) _ t h1 in
+    let (place, (b, h2)) = chain_ok (wholes_at s (codes "at") arms) _ t h1 in
     let (azimuth, (c, h3)) = chain_ok (count_at s (codes "azimuth") (up_to 35999)) _ t h2 in
     let (least, (e, h4)) = chain_ok (whole_at s (codes "min") (down_to 2147483648)) _ t h3 in
     let (most, (g, h5)) = chain_ok (whole_at s (codes "max") (up_to 2147483648)) _ t h4 in
@@ -312,172 +354,35 @@ thruster_within groups few i d t h =
     let angle = count_within s (codes "azimuth") 0 35999 azimuth c in
     let lows = whole_within s (codes "min") (neg_ℤ (pos 2147483648)) (pos 0) least e in
     let highs = whole_within s (codes "max") (pos 0) (pos 2147483648) most g in
-    subst IsThrusterWithin (ok_is _ t h5) (record {
-      group = group_below group groups few in_group.1;
-      azimuth = omega (arith, angle.1);
-      below = lows.1;
-      above = highs.0;
-      low = force_low least lows.0 lows.1;
-      high = force_high most highs.0 highs.1;
-    })
-
-case_within : (groups thrusters : ℕ) (before : List RawCase) (d : Data) (c : RawCase) → case_at groups thrusters before d ≡ Ok c → IsCaseWithin thrusters c
-unfolding case_at
-case_within groups thrusters before d c h =
-    let s = indexed (codes "case") (length before) d in
-    let lows = down_to 2147483648 ∷ down_to 2147483648 ∷ down_to 274877906944 ∷ [] in
-    let highs = up_to 2147483648 ∷ up_to 2147483648 ∷ up_to 274877906944 ∷ [] in
-    let (lost, (a, h1)) = chain_ok (lost_at groups before s) _ c h in
-    let (lo, (b, h2)) = chain_ok (wholes_at s (codes "lo") lows) _ c h1 in
-    let (hi, (e, h3)) = chain_ok (wholes_at s (codes "hi") highs) _ c h2 in
-    let (shares, (g, h4)) = chain_ok (rows_at s (codes "b") thrusters (about 2147483648 ∷ about 2147483648 ∷ about 2147483648 ∷ [])) _ c h3 in
-    let l = wholes_within s (codes "lo") lows lo b in
-    let u = wholes_within s (codes "hi") highs hi e in
-    let r = rows_within s (codes "b") thrusters 2147483648 shares g in
-    subst (IsCaseWithin thrusters) (ok_is _ c h4) (record {
-      plane = record {
-        surge = record { below = l.0.1; above = u.0.0; low = force_low _ l.0.0 l.0.1; high = force_high _ u.0.0 u.0.1 };
-        sway = record { below = l.1.0.1; above = u.1.0.0; low = force_low _ l.1.0.0 l.1.0.1; high = force_high _ u.1.0.0 u.1.0.1 };
+    subst (IsOfGroups groups) (ok_is _ t h5) (record {
+      within = record {
+        group = omega (arith, some, few, in_group.1);
+        arm = arm_within place (wholes_at_long s (codes "at") arms place b) (wholes_within s (codes "at") arms place b);
+        azimuth = omega (arith, angle.1);
+        below = lows.1;
+        above = highs.0;
+        low = force_low least lows.0 lows.1;
+        high = force_high most highs.0 highs.1;
       };
-      yaw = record { below = l.1.1.0.1; above = u.1.1.0.0; low = yaw_low _ l.1.1.0.0 l.1.1.0.1; high = yaw_high _ u.1.1.0.0 u.1.1.0.1 };
-      rows = r.0;
-      shares = r.1;
+      member = omega (arith, some, in_group.1);
     })
 
-cases_kept : (groups thrusters : ℕ) (before : List RawCase) (ds : List Data) (cs : List RawCase) → All (IsCaseWithin thrusters) before
-    → cases_after groups thrusters before ds ≡ Ok cs → All (IsCaseWithin thrusters) cs
-cases_kept groups thrusters before [] cs all h = subst (All (IsCaseWithin thrusters)) (ok_is before cs h) all
-cases_kept groups thrusters before (d ∷ ds) cs all h =
-    let (c, (first, rest)) = chain_ok (case_at groups thrusters before d) _ cs h in
-    cases_kept groups thrusters (before ++ c ∷ []) ds cs (All-push (IsCaseWithin thrusters) before c all (case_within groups thrusters before d c first)) rest
+pub record AreThrusters (groups : ℕ) (ts : List Thruster) : Type 0 where
+  pub each : All IsThrusterWithin ts
+  pub members : All (λ t. t.group < groups) ts
+  pub some : 1 ≤ length ts
+  pub few : length ts ≤ 12
 
-cases_within : (document : Option Data) (groups thrusters : ℕ) (cs : List RawCase) → cases_at document groups thrusters ≡ Ok cs → All (IsCaseWithin thrusters) cs
-unfolding cases_at
-cases_within document groups thrusters cs h =
-    let (all, (read, last)) = chain_ok (tables_at document (codes "case") 1 32 >>= cases_after groups thrusters []) (all_there groups) cs h in
-    let (ds, (t, each)) = chain_ok (tables_at document (codes "case") 1 32) _ all read in
-    let (there, same) = judged_ok (list_all (has_case all) (single_masks groups)) _ all cs last in
-    subst (All (IsCaseWithin thrusters)) same (cases_kept groups thrusters [] ds all (All-nil (IsCaseWithin thrusters)) each)
-
-thrusters_within : (document : Option Data) (groups : ℕ) (ts : List Thruster) → groups ≤ 8 → thrusters_at document groups ≡ Ok ts → All IsThrusterWithin ts × (length ts ≤ 12)
+pub thrusters_within : (document : Option Data) (groups : ℕ) (ts : List Thruster) → 1 ≤ groups → groups ≤ 8 → thrusters_at document groups ≡ Ok ts → AreThrusters groups ts
 unfolding thrusters_at
-thrusters_within document groups ts few h =
+thrusters_within document groups ts some few h =
     let (ds, (t, each)) = chain_ok (tables_at document (codes "thruster") 1 12) _ ts h in
     let long = each_long (thruster_at groups) 0 ds ts each in
-    let most = tables_few document (codes "thruster") 1 12 ds t in
-    (each_within IsThrusterWithin (thruster_at groups) (thruster_within groups few) 0 ds ts each, omega (arith, long, most))
-
--- ---- what goes by the version
-
-abbrev HasNoWaves : Gains → Type 0
-HasNoWaves g = (g.wave ≡ replicate 4 (pos 0)) × (g.k1 ≡ replicate 2 (pos 0))
-
-no_waves_in_one : (document : Option Data) (g : Gains) → gains_at 1 document ≡ Ok g → HasNoWaves g
-unfolding gains_at waves_at
-no_waves_in_one document g h =
-    let s = plain document (codes "gains") in
-    let (k2, (a, h1)) = chain_ok (number_at s (codes "k2")) _ g h in
-    let (k3, (b, h2)) = chain_ok (number_at s (codes "k3")) _ g h1 in
-    let (k4, (c, h3)) = chain_ok (number_at s (codes "k4")) _ g h2 in
-    let (leak, (d, h4)) = chain_ok (number_at s (codes "leak")) _ g h3 in
-    let (damp, (e, h5)) = chain_ok (number_at s (codes "damp")) _ g h4 in
-    let (kp, (f, h6)) = chain_ok (numbers_at s (codes "kp") 2) _ g h5 in
-    let (kd, (i, h7)) = chain_ok (numbers_at s (codes "kd") 2) _ g h6 in
-    let (bias, (j, h8)) = chain_ok (numbers_at s (codes "bias") 2) _ g h7 in
-    subst HasNoWaves (ok_is _ g h8) (refl, refl)
-
-abbrev IsDataOfVersion : ℕ → Gains → PartsData → Type 0
-IsDataOfVersion version g (of_three x) = (version ≡ 1) × HasNoWaves g
-IsDataOfVersion version g (of_five x) = version ≡ 2
-
-parts_of_version : (version : ℕ) (document : Option Data) (g : Gains) (s : Section) (parts : PartsData) → 1 ≤ version → version ≤ 2
-    → gains_at version document ≡ Ok g → parts_at version s ≡ Ok parts → IsDataOfVersion version g parts
-unfolding parts_at
-parts_of_version zero document g s parts low high gains h = absurd (omega arith)
-parts_of_version (suc zero) document g s parts low high gains h =
-    let (x, (read, last)) = chain_ok (lists_of_three s) _ parts h in
-    subst (IsDataOfVersion 1 g) (ok_is (of_three x) parts last) (refl, no_waves_in_one document g gains)
-parts_of_version (suc (suc zero)) document g s parts low high gains h =
-    let (x, (read, last)) = chain_ok (lists_of_five s) _ parts h in
-    subst (IsDataOfVersion 2 g) (ok_is (of_five x) parts last) refl
-parts_of_version (suc (suc (suc n))) document g s parts low high gains h = absurd (omega arith)
-
-cert_of_version : (version : ℕ) (document : Option Data) (g : Gains) (c : CertData) → 1 ≤ version → version ≤ 2
-    → gains_at version document ≡ Ok g → cert_at version document ≡ Ok c → IsDataOfVersion version g c.parts
-unfolding cert_at
-cert_of_version version document gains c low high read h =
-    let s = plain document (codes "cert") in
-    let (rho, (a, h1)) = chain_ok (number_at s (codes "rho")) _ c h in
-    let (b, (d, h2)) = chain_ok (number_at s (codes "b")) _ c h1 in
-    let (r, (e, h3)) = chain_ok (number_at s (codes "r")) _ c h2 in
-    let (g, (f, h4)) = chain_ok (numbers_at s (codes "g") 2) _ c h3 in
-    let (parts, (i, last)) = chain_ok (parts_at version s) _ c h4 in
-    subst (λ (x : CertData). IsDataOfVersion version gains x.parts) (ok_is _ c last) (parts_of_version version document gains s parts low high read i)
-
-seen_version : (version : ℕ) (g : Gains) (parts : Parts) → IsDataOfVersion version g (parts_view parts) → IsOfVersion version g parts
-seen_version version g (Three x) h = (h.0, (h.1.0, h.1.1))
-seen_version version g (Five x) h = h
-
--- ---- the file
-
-record IsDataWithin (x : PlantData) : Type 0 where
-  version : IsDataOfVersion x.version x.gains x.cert.parts
-  vessel : IsVesselWithin (record { version = x.version; cycle_ms = x.cycle_ms; origin = x.origin; start = x.start; setpoint = x.setpoint; groups = x.groups; mass = x.mass; tol = x.tol })
-  references : All AreRefLimits x.refs
-  levers : All IsLever x.levers
-  wind : All AreWindShares x.wind.push
-  thrusters : All IsThrusterWithin x.thrusters
-  few_thrusters : length x.thrusters ≤ 12
-  cases : All (IsCaseWithin (length x.thrusters)) x.cases
-
-data_within : (document : Option Data) (x : PlantData) → plant_at document ≡ Ok x → IsDataWithin x
-unfolding plant_at
-data_within document x h =
-    let (vessel, (a, h1)) = chain_ok (vessel_at document) _ x h in
-    let (refs, (b, h2)) = chain_ok (refs_at document) _ x h1 in
-    let (wind, (c, h3)) = chain_ok (wind_at document) _ x h2 in
-    let (ts, (d, h4)) = chain_ok (thrusters_at document vessel.groups) _ x h3 in
-    let (cs, (e, h5)) = chain_ok (cases_at document vessel.groups (length ts)) _ x h4 in
-    let (gains, (f, h6)) = chain_ok (gains_at vessel.version document) _ x h5 in
-    let (yaw, (g, h7)) = chain_ok (yaw_at document) _ x h6 in
-    let (cert, (k, h8)) = chain_ok (cert_at vessel.version document) _ x h7 in
-    let v = vessel_within document vessel a in
-    let r = refs_within document refs b in
-    let t = thrusters_within document vessel.groups ts v.groups_high d in
-    subst IsDataWithin (ok_is _ x h8) (record {
-      version = cert_of_version vessel.version document gains cert v.version_low v.version_high f k;
-      vessel = v;
-      references = All-map AreRefLimits (λ (q : Reference). q.limits) refs (λ n z lt. (r n z lt).limits);
-      levers = All-map IsLever (λ (q : Reference). q.lever) refs (λ n z lt. (r n z lt).lever);
-      wind = wind_within document wind c;
-      thrusters = t.0;
-      few_thrusters = t.1;
-      cases = cases_within document vessel.groups (length ts) cs e;
-    })
-
-pub plant_within : (document : Option Data) (p : Plant) → plant_at document ≡ Ok (plant_view p) → IsPlantWithin p
-plant_within document p h =
-    let w = data_within document (plant_view p) h in
+    let count = tables_few document (codes "thruster") 1 12 ds t in
+    let all = each_within (IsOfGroups groups) (thruster_at groups) (thruster_within groups some few) 0 ds ts each in
     record {
-      version = seen_version p.version p.gains p.cert.parts w.version;
-      cycle_low = w.vessel.cycle_low;
-      cycle_high = w.vessel.cycle_high;
-      origin = w.vessel.origin;
-      start = w.vessel.start;
-      setpoint = w.vessel.setpoint;
-      groups_low = w.vessel.groups_low;
-      groups_high = w.vessel.groups_high;
-      references = w.references;
-      levers = w.levers;
-      wind = w.wind;
-      thrusters = w.thrusters;
-      few_thrusters = w.few_thrusters;
-      cases = w.cases;
+      each = λ k e lt. (all k e lt).within;
+      members = λ k e lt. (all k e lt).member;
+      some = omega (arith, long, count.0);
+      few = omega (arith, long, count.1);
     }
-
--- so what reading a file answers is in the file's ranges
-pub gives_within : (r : Result Plant PlantFault) (document : Option Data) → Gives plant_view r (plant_at document) → IfOk r IsPlantWithin
-gives_within (Ok p) document h = plant_within document p h
-gives_within (Err e) document h = tt
-
-pub ruleset file_ranges = gives_within

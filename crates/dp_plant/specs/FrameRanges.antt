@@ -1,5 +1,5 @@
 -- The ranges of what the wires bring in a cycle.
-use Rattle.std.specs.Prelude.{◌<◌, ◌^◌, ℕ, IfSome}
+use Rattle.std.specs.Prelude.{◌≡◌, ◌<◌, ◌^◌, ℕ, All, IfSome, None, drop}
 use Rattle.std.specs.List.{AllByRecursion}
 use Rattle.dp_plant.specs.declared.place.Place.{Place}
 use Rattle.dp_plant.specs.declared.frames.Frame.{Frame}
@@ -31,3 +31,8 @@ pub record IsFrameWithin (f : Frame) : Type 0 where
   pub headings : AllByRecursion IsHeadingSlotWithin f.gyro
   pub winds : AllByRecursion IsWindSlotWithin f.wind
   pub cycle : f.cycle < 2 ^ 20
+
+-- a frame that a plant with so many groups can bring: no group beyond these reports
+pub record IsFrameInRange (groups : ℕ) (f : Frame) : Type 0 where
+  pub within : IsFrameWithin f
+  pub lacking : All (λ s. s.last ≡ None) (drop groups f.group)

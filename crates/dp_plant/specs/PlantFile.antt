@@ -1,7 +1,7 @@
 -- The plant file: its keys in their order, each with its name and its range, and what becomes of
 -- them.
-use Rattle.std.specs.Prelude.{ℕ, ◌+◌, ◌-◌, ◌^◌, ◌==◌, nat_abs, ℤ, pos, ◌*ℤ◌, Bool, if◌then◌else◌, List, [], ◌∷◌, ◌++◌, length, map, replicate, take, Option, Some, Result, Ok, Err, codes}
-use Rattle.std.specs.List.{list_all, list_any}
+use Rattle.std.specs.Prelude.{ℕ, ◌+◌, ◌-◌, ◌^◌, ◌==◌, ℤ, pos, ◌*ℤ◌, if◌then◌else◌, List, [], ◌∷◌, ◌++◌, length, map, replicate, take, Option, Result, Ok, Err, codes}
+use Rattle.std.specs.List.{list_all}
 use Rattle.toml.specs.Data.{Data}
 use Rattle.dp_form.specs.declared.Square.{Square}
 use Rattle.dp_form.specs.declared.Squares.{Squares}
@@ -22,6 +22,7 @@ use Rattle.dp_plant.specs.declared.references.RefLimits.{RefLimits}
 use Rattle.dp_plant.specs.declared.thrusters.RawCase.{RawCase}
 use Rattle.dp_plant.specs.declared.thrusters.Thruster.{Thruster}
 use Rattle.dp_plant.specs.declared.wind.WindTable.{WindTable}
+use Rattle.dp_plant.specs.PlantRanges.{has_case}
 use Rattle.dp_plant.specs.Vectors.{entry}
 
 -- ---- [plant]
@@ -114,10 +115,6 @@ thrusters_at document groups =
     tables_at document (codes "thruster") 1 12 >>= each_from (thruster_at groups) 0
 
 -- ---- [[case]], 1 to 32 tables
-
--- there is a case for this mask of lost groups
-abbrev pub has_case : List RawCase → ℕ → Bool
-has_case cases mask = list_any (λ c. c.lost == mask) cases
 
 -- no case before has the same mask
 abbrev pub unlike : Section → List RawCase → ℕ → Result ℕ Fault

@@ -1,10 +1,13 @@
 -- Vectors in north and east, and along the vessel's axes.
-use Rattle.std.specs.Prelude.{ℕ, List, slice_index_or, ℤ, pos, ◌+ℤ◌, ◌-ℤ◌, ◌*ℤ◌}
+use Rattle.std.specs.Prelude.{ℕ, List, [], ◌∷◌, slice_index_or, ℤ, pos, ◌+ℤ◌, ◌-ℤ◌, ◌*ℤ◌}
 use Rattle.dp_plant.specs.declared.place.Place.{Place}
 
 -- an entry of an array of numbers
 abbrev pub entry : List ℤ → ℕ → ℤ
 entry xs i = slice_index_or xs i (pos 0)
+
+abbrev pub three_zeros : List ℤ
+three_zeros = pos 0 ∷ pos 0 ∷ pos 0 ∷ []
 
 abbrev pub zero_place : Place
 zero_place = record { north = pos 0; east = pos 0 }

@@ -1,8 +1,8 @@
-ghost use Rattle.std.specs.Prelude.{IfOk, IsErrAnd, IsSome, IsUtf8, Ok, Some, ◌≡◌};
+ghost use Rattle.std.specs.Prelude.{IsErrAnd, IsSome, IsUtf8, Ok, Some, ◌≡◌};
 ghost use Rattle.toml.specs.Data.{Members, table};
 ghost use Rattle.toml.specs.Parse.{parse_document};
 ghost use Rattle.toml.specs.View.{view};
-ghost use Rattle.dp_plant.specs.{Gives, IsNoDocument, IsPlantWithin, plant_at, plant_view, seen};
+ghost use Rattle.dp_plant.specs.{Gives, IsNoDocument, plant_at, plant_view, seen};
 
 mod cases;
 mod certificate;
@@ -28,8 +28,6 @@ pub fn plant_of(alloc: Global, bytes: &[u8]) -> Result<Plant, PlantFault>
         → Gives plant_view result (plant_at (Some (table ms))) }
     // Other bytes are no document.
     ensures no_document { ¬ (IsUtf8 bytes.now × IsSome (parse_document bytes.now)) → IsErrAnd result IsNoDocument }
-    // Each number but those of the gains is in its range.
-    ensures within { IfOk result IsPlantWithin }
 {
     let document = document_of(alloc, bytes)?;
     plant_in(Some(&document))

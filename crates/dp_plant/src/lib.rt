@@ -2,7 +2,9 @@
 //!
 //! A [`Frame`] is what all wires brought in a cycle, a [`Verdict`] what the tests say of one position reference, a [`Ballot`] what a voter
 //! gives its thruster. A [`Plant`] is a vessel with the limits, thrusters, cases and gains by which it is controlled; [`Plant::copy`]
-//! answers an equal one and takes no memory. [`p0`] is the built-in plant; `specs/BuiltInPlant` states each of its fields.
+//! answers an equal one and takes no memory. Its numbers are within the ranges of a plant file, but for those of the gains, which are
+//! judged with the certificate: that is a fact of the type, over the parts in `specs/PlantRanges`, over a plant in `specs/SoundPlant`,
+//! and `plant_within` of `proofs/PlantFacts` hands it to the crates above. [`samples`] has two plants for tests and trials.
 //!
 //! [`plant_of`] reads a plant file, a TOML document. `specs/PlantFile` is the table of its keys, in their order, with the range of each
 //! and what becomes of it; `specs/Keys` has how one key is judged: first whether it is there, then its kind, then its range. The answer
@@ -20,7 +22,7 @@
 //! plants are equal where each field is and each list has the same items.
 #![tactic(auto)]
 
-mod built_in;
+mod alarms;
 mod cert;
 mod fault;
 mod file;
@@ -33,12 +35,13 @@ mod place;
 mod plane;
 mod plant;
 mod references;
+pub mod samples;
 mod thrusters;
 mod voting;
 mod wind;
 mod yaw;
 
-pub use built_in::p0;
+pub use alarms::{Alarms, Cause};
 pub use cert::{Cert, Key, Lists, Parts};
 pub use fault::PlantFault;
 pub use file::plant_of;

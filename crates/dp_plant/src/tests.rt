@@ -1,5 +1,6 @@
+use crate::samples::{S1, S2};
 use crate::{PlantFault, plant_of};
-use rows::{EDITS_OF_S1, EDITS_OF_S2, KEYS_OF_S1, KEYS_OF_S2, S1, S2};
+use rows::{EDITS_OF_S1, EDITS_OF_S2, KEYS_OF_S1, KEYS_OF_S2};
 use std::alloc::{AllocError, Global};
 use std::process::Abort;
 
@@ -183,7 +184,8 @@ fn lengths_come_to_nanometres(rt: HostRuntime) -> Result<(), AllocError> {
             assert_eq!(rt; plant.setpoint.at.north, -8_796_093_000_000);
             assert_eq!(rt; plant.setpoint.at.east, 8_796_093_000_000);
             assert_eq!(rt; plant.setpoint.psi, 359_990_000_000);
-            assert_eq!(rt; plant.refs[0].jump, 5_000_000_000);
+            let [first, _, _] = plant.refs;
+            assert_eq!(rt; first.jump, 5_000_000_000);
             assert_eq!(rt; plant.cases.len(), 3);
         }
         Err(_) => assert!(rt; false),

@@ -26,7 +26,8 @@ pub struct RawCase {
 }
 
 impl RawCase {
-    pub(crate) fn copy(&self) -> RawCase
+    /// An equal case, which takes no memory.
+    pub fn copy(&self) -> RawCase
         ensures { result ≡ self.now }
     {
         RawCase {

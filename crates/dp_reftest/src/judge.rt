@@ -16,8 +16,8 @@ impl Sums {
         requires few { self.now.n ≤ limits.now.window }
         requires sums { AreSums self.now }
         requires last { last ≤ now }
-        ensures value { (xs : List Place) → AreNear xs → self.now ≡ sums_of limits.now.jump xs → EndsIn newest xs →
-            result ≡ verdict_of limits.now (kept_by last xs) now }
+        ensures value { (xs : List Place) → AreNear xs → self.now ≡ sums_of limits.now.jump xs
+            → EndsIn newest xs → result ≡ verdict_of limits.now (kept_by last xs) now }
         ensures within { IsVectorWithin (2 ^ 43) newest → IsVerdictWithin result }
     {
         self.judged(limits, newest, now - last)

@@ -2,9 +2,7 @@
 ghost use Rattle.std.specs.Prelude.{◌≡◌, ◌<◌, ◌≤◌, ◌+◌, ◌-◌, ◌^◌, [], ◌∷◌, ◌++◌, length, drop, IfOk, IfSome};
 ghost use Rattle.circular_buffer.specs.Buffer.{buffer, keep_last};
 ghost use Rattle.dp_plant.specs.{AreRefLimits, IsVectorWithin};
-ghost use Rattle.dp_reftest.specs.Running.{IsRunning};
-ghost use Rattle.dp_reftest.specs.Totals.{sums_of};
-ghost use Rattle.dp_reftest.specs.Window.{AreNear, IsKept};
+ghost use Rattle.dp_reftest.specs.{AreNear, IsKept, IsRunning, IsVerdictWithin, sums_of, tested_by, untested, verdict_of, window_next};
 
 use crate::{Kept, Sums};
 use arrayvec::ArrayVec;
@@ -36,10 +34,6 @@ impl Model for RefTest {
 }
 
 impl RefTest {
-    ghost use Rattle.dp_reftest.specs.Tested.{tested_by, untested};
-    ghost use Rattle.dp_reftest.specs.Verdict.{IsVerdictWithin, verdict_of};
-    ghost use Rattle.dp_reftest.specs.Window.{window_next};
-
     /// A test that has taken no cycle; it makes room for the window, and no later call takes memory.
     pub fn new(alloc: Global, limits: &RefLimits) -> Result<RefTest, Memory>
         requires { AreRefLimits limits.now }

@@ -1,24 +1,37 @@
 //! What a cycle's text tells, and the text.
 ghost use Rattle.std.specs.Prelude.{◌≡◌, ◌≤◌, ◌+◌, ◌*◌, ◌++◌};
 ghost use Rattle.arrayvec.specs.ArrayVec.{array_vec_len};
-ghost use Rattle.dp_report.specs.{block_text, block_value, thruster_lines};
+ghost use Rattle.dp_report.specs.{block_text, thruster_lines};
 
+use crate::TEXT;
+use crate::alarms::append_alarms;
 use crate::text::{cycle_line, thruster_line};
 use arrayvec::ArrayVec;
-use dp_plant::{Ballot, Mode};
+use dp_plant::{Alarms, Ballot, Mode};
 use dp_text::append;
 
-/// Room for the text of a cycle.
-const TEXT: usize = 4096;
-
-/// One cycle: how each computer takes part, and for each thruster its ballot and the order that its voter holds from each computer, in
-/// newtons. `ballots` and `held` are as long as there are thrusters.
+/// One cycle: how each computer takes part, for each thruster its ballot and the order that its voter holds from each computer, in
+/// newtons, and the alarms that at least two computers raise, where they are known. `ballots` and `held` are as long as there are
+/// thrusters.
 #[derive(Debug, Drop)]
 pub struct Block {
     pub cycle: u64,
     pub modes: [Mode; 3],
     pub ballots: ArrayVec<Ballot, 12>,
     pub held: ArrayVec<[Option<i64>; 3], 12>,
+    pub alarms: Option<Alarms>,
+}
+
+/// Replaces the content by the text of one cycle, as the crate's page describes it. The block has as many ballots as orders held.
+#[tactic(auto, unfolding(crate::specs::Block::block_text))]
+pub fn write_block(b: &Block, into: &mut ArrayVec<u8, TEXT>)
+    requires { array_vec_len b.now.ballots ≡ array_vec_len b.now.held }
+    ensures { into.new.items ≡ block_text b.now }
+{
+    into.clear();
+    append(into, &cycle_line(b.cycle, &b.modes));
+    append_thrusters(into, &b.ballots, &b.held);
+    append_alarms(into, &b.alarms);
 }
 
 /// Appends the line of each thruster.
@@ -38,15 +51,4 @@ fn append_thrusters(
     for k in 0..ballots.len() {
         append(into, &thruster_line(k as u64, ballots[k], &held[k]));
     }
-}
-
-/// Replaces the content by the text of one cycle, as the crate's page describes it. The block has as many ballots as orders held.
-#[tactic(auto, unfolding(crate::specs::Block::block_text))]
-pub fn write_block(b: &Block, into: &mut ArrayVec<u8, TEXT>)
-    requires { array_vec_len b.now.ballots ≡ array_vec_len b.now.held }
-    ensures { into.new.items ≡ block_text (block_value b.now) }
-{
-    into.clear();
-    append(into, &cycle_line(b.cycle, &b.modes));
-    append_thrusters(into, &b.ballots, &b.held);
 }

@@ -4,3 +4,5 @@ pub mod Phrases
 pub mod Pushes
 pub mod Reading
 pub mod Spans
+pub mod MadeLines
+pub mod Making

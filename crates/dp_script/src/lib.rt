@@ -1,4 +1,6 @@
-//! The script of a replay: which acts happen in which cycle.
+//! The script of a replay, which says what acts happen in which cycle, and records that are made of a number.
+//!
+//! # Scripts
 //!
 //! A script is a text of lines `CYCLE VERB ARGUMENTS`, the parts separated by one space. A line ends with a line feed, and a carriage
 //! return before it is dropped; a last line without a line feed is a line as it stands. A line that is empty or begins with `#` is
@@ -31,6 +33,27 @@
 //! `specs/` has this as definitions on the whole text: what a line says (`Commands`, `Entries`), the first faulty line, each judged with
 //! the lines before it (`Faults`), and the acts of a cycle (`TimedActs`). `Script::of` reads the bytes once; `len` and `act` search for the
 //! cycle and take no memory.
+//!
+//! # Made records
+//!
+//! A number makes a record of 3600 seconds, as an input of full length that is the same each time. [`Maker`] gives it line by line, and
+//! [`make`] writes it to a sink. Each second has nine lines, here those of second 0 of the record of 0:
+//!
+//! ```text
+//! 0 pos0 L -477 -254                          places, each coordinate from -500 to 500 mm
+//! 0 pos1 L -186 -8
+//! 0 pos2 L -382 158
+//! 0 gyro0 $HEHDT,000.4,T*2B                   headings from 0 to 0.9 degrees
+//! 0 gyro1 $HEHDT,000.5,T*2A
+//! 0 gyro2 $HEHDT,000.4,T*2B
+//! 0 wind0 $WIMWV,045.0,R,09.0,M,A*18          wind at 45 degrees, from 0 to 9 m/s
+//! 0 wind1 $WIMWV,045.0,R,03.0,M,A*12
+//! 0 wind2 $WIMWV,045.0,R,02.0,M,A*13
+//! ```
+//!
+//! What changes is drawn from a generator of 64 bits (Knuth's MMIX multiplier and increment), whose state begins with the number
+//! (`specs/Generator`). `specs/Made` defines the record. That [`Maker`] gives exactly its lines, and [`make`] writes exactly its text, or
+//! a prefix of it where it answers a trouble, is proved. A line takes no memory.
 #![tactic(auto)]
 
 mod act;
@@ -38,12 +61,16 @@ mod command;
 mod draft;
 mod entry;
 mod fault;
+mod generator;
+mod made_line;
+mod maker;
 mod script;
 mod timed_act;
 mod usual;
 
 pub use act::{Act, P2};
 pub use fault::{ScriptFault, ScriptKind};
+pub use maker::{Maker, make};
 pub use script::Script;
 
 #[cfg(test)]

@@ -1,8 +1,9 @@
 -- A text cut at its first comma.
-use Rattle.std.proofs.Common.{◌≡◌, ℕ, ◌+◌, ◌-◌, ◌<◌, ◌≤◌, List, [], ◌∷◌, Bool, true, false, length, take, drop, refl, ap, ◌∙◌, arith, get_or, ◌++◌, append_assoc, append-nil, length-append, Option, Some, None}
-use Rattle.std.specs.Prelude.{not, map}
+use Rattle.std.proofs.Common.{◌≡◌, ℕ, ◌+◌, ◌-◌, ◌<◌, ◌≤◌, List, [], ◌∷◌, Bool, true, false, length, take, drop, refl, ap, sym, ◌∙◌, arith, get_or, ◌++◌, append_assoc, append-nil, Option, Some, None}
+use Rattle.std.specs.Prelude.{◌==◌, count_by, not, map}
+use Rattle.std.proofs.lemmas.Bool.Decides.{nat_tests}
 use Rattle.std.specs.Borrow.{Bor}
-use Rattle.std.proofs.lemmas.List.{map-append, length-map}
+use Rattle.std.proofs.lemmas.List.{map-append, length-map, take_all}
 use Rattle.std.specs.List.{position_or_len}
 use Rattle.std.proofs.lemmas.List.Splits.{slice_split_first, slice_split_none, length-slice_split}
 use Rattle.std.proofs.lemmas.List.Sums.{prefix_len_passes}
@@ -35,22 +36,29 @@ unfolding parts
 parts-some t = omega (arith, length-slice_split is_comma t)
 
 -- one more field
-pub split-more : (b : List (List ℕ)) (first : List ℕ) (xs : List (Bor (List ℕ))) (x tail : Bor (List ℕ)) (more : Option (Bor (List ℕ)))
-    → b ≡ first ∷ (map (λ f. f.now) xs ++ parts_after (Some tail)) → parts tail.now ≡ x.now ∷ parts_after more
-    → b ≡ first ∷ (map (λ f. f.now) (xs ++ x ∷ []) ++ parts_after more)
+pub kept-more : (b : List (List ℕ)) (xs : List (Bor (List ℕ))) (x tail : Bor (List ℕ)) (more : Option (Bor (List ℕ)))
+    → b ≡ map (λ f. f.now) xs ++ parts_after (Some tail) → parts tail.now ≡ x.now ∷ parts_after more
+    → b ≡ map (λ f. f.now) (xs ++ x ∷ []) ++ parts_after more
 unfolding parts_after
-split-more b first xs x tail more was cut = was ∙ rw (cut, map-append (λ (f : Bor (List ℕ)). f.now) xs, append_assoc (map (λ (f : Bor (List ℕ)). f.now) xs))
+kept-more b xs x tail more was cut = was ∙ rw (cut, map-append (λ (f : Bor (List ℕ)). f.now) xs, append_assoc (map (λ (f : Bor (List ℕ)). f.now) xs))
 
-pub split-full : (b : List (List ℕ)) (first : List ℕ) (xs : List (Bor (List ℕ))) (tail : Bor (List ℕ))
-    → b ≡ first ∷ (map (λ f. f.now) xs ++ parts_after (Some tail)) → length xs ≡ 24 → 25 < length b
+-- there are no more
+pub kept-all : (n : ℕ) (b : List (List ℕ)) (xs : List (Bor (List ℕ)))
+    → b ≡ map (λ f. f.now) xs ++ parts_after None → length xs ≤ n → map (λ f. f.now) xs ≡ take n b
 unfolding parts_after
-split-full b first xs tail was full = rw was (omega (arith, length-append (map (λ (f : Bor (List ℕ)). f.now) xs) (parts tail.now), length-map xs (λ (f : Bor (List ℕ)). f.now), parts-some tail.now, full))
+kept-all n b xs was few =
+    let all : b ≡ map (λ (f : Bor (List ℕ)). f.now) xs = was ∙ append-nil (map (λ (f : Bor (List ℕ)). f.now) xs) in
+    sym (ap (take n) all ∙ take_all n (map (λ (f : Bor (List ℕ)). f.now) xs) (omega (arith, length-map xs (λ (f : Bor (List ℕ)). f.now), few)))
 
-pub split-done : (b : List (List ℕ)) (first : List ℕ) (xs : List (Bor (List ℕ)))
-    → b ≡ first ∷ (map (λ f. f.now) xs ++ parts_after None) → b ≡ first ∷ map (λ f. f.now) xs
-unfolding parts_after
-split-done b first xs was = was ∙ rw (append-nil (map (λ (f : Bor (List ℕ)). f.now) xs))
+-- a body has one part more than commas
+pub commas-many : (text : List ℕ) (n : ℕ) → n ≡ count_by is_comma text → 24 < n → 25 < length (parts text)
+unfolding parts
+commas-many text n is lt = omega (arith, length-slice_split is_comma text, is, lt)
 
-pub split-few : (b : List (List ℕ)) (first : List ℕ) (xs : List (Bor (List ℕ)))
-    → b ≡ first ∷ (map (λ f. f.now) xs ++ parts_after None) → length xs ≤ 24 → 25 < length b → ⊥
-split-few b first xs was few lt = omega (arith, ap length (split-done b first xs was), length-map xs (λ (f : Bor (List ℕ)). f.now), few, lt)
+pub commas-few : (text : List ℕ) (n : ℕ) → n ≡ count_by is_comma text → n ≤ 24 → 25 < length (parts text) → ⊥
+unfolding parts
+commas-few text n is le lt = omega (arith, length-slice_split is_comma text, is, le, lt)
+
+-- where a list isn't full, there is room for one more
+pub room-for : (n m k : ℕ) → false ≡ (n == m) → n ≤ m → k ≡ n + 1 → k ≤ m
+room-for n m k other le is = let lt : n < m = grind (arith, nat_tests) in omega arith

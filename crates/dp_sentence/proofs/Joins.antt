@@ -1,6 +1,5 @@
 -- A line by its parts, one after another.
-use Rattle.std.proofs.Common.{◌≡◌, ℕ, ◌+◌, ◌-◌, ◌*◌, ◌/◌, ◌%◌, ◌<◌, ◌≤◌, List, [], ◌∷◌, ◌++◌, Bool, true, false, length, take, drop, refl, sym, ◌∙◌, arith, get_or, append-nil, append_assoc, length-append, subst, Result, Ok, Err}
-use Rattle.std.specs.Prelude.{IsOk, IfOk}
+use Rattle.std.proofs.Common.{◌≡◌, ℕ, ◌+◌, ◌-◌, ◌*◌, ◌/◌, ◌%◌, ◌<◌, ◌≤◌, List, [], ◌∷◌, ◌++◌, Bool, true, false, length, take, drop, refl, sym, ◌∙◌, arith, get_or, append-nil, append_assoc, length-append, subst}
 use Rattle.std.specs.Char.{is_ascii_hexdigit, digit_value, to_ascii_uppercase}
 use Rattle.std.proofs.lemmas.Bool.Decides.{nat_tests}
 use Rattle.std.proofs.lemmas.List.{drop_more, drop_all, take-append-drop, take_at, drop_at}
@@ -119,19 +118,12 @@ pub written-back : (line : List ℕ) → IsSentence line → IsSameButForCase (w
 unfolding written
 written-back line s = rw (body-whole line) (written-line line s.start (ends-right line s.checksum_field) s.sum)
 
--- what is read stands in order in the line
-module _ {S E : Type 0} where
-  pub read-in-order : (r : Result S E) (t f : S → List ℕ) (g : S → List (List ℕ)) (line : List ℕ)
-      → IfOk r (λ s. t s ≡ talker line) → IfOk r (λ s. f s ≡ formatter line) → IfOk r (λ s. g s ≡ fields line) → (IsOk r → IsSentence line)
-      → IfOk r (λ s. StandsInOrder line (t s) (f s) (g s))
-  read-in-order (Ok s) t f g line a b c is =
-      let sentence : IsSentence line = is refl in
-      let talker-is : t s ≡ talker line = a in
-      let formatter-is : f s ≡ formatter line = b in
-      let fields-is : g s ≡ fields line = c in
-      let whole : StandsInOrder line (talker line) (formatter line) (fields line) =
-      in-order line sentence.start (ends-right line sentence.checksum_field).long in
-      subst (λ x. StandsInOrder line x (f s) (g s)) (sym talker-is)
-      (subst (λ y. StandsInOrder line (talker line) y (g s)) (sym formatter-is)
-      (subst (λ z. StandsInOrder line (talker line) (formatter line) z) (sym fields-is) whole))
-  read-in-order (Err e) t f g line a b c is = tt
+-- the parts of a sentence stand in order in its line
+pub parts-in-order : (line t f : List ℕ) (g : List (List ℕ)) → t ≡ talker line → f ≡ formatter line → g ≡ fields line → IsSentence line
+    → StandsInOrder line t f g
+parts-in-order line t f g t_is f_is g_is sentence =
+    let whole : StandsInOrder line (talker line) (formatter line) (fields line) =
+    in-order line sentence.start (ends-right line sentence.checksum_field).long in
+    subst (λ x. StandsInOrder line x f g) (sym t_is)
+    (subst (λ y. StandsInOrder line (talker line) y g) (sym f_is)
+    (subst (λ z. StandsInOrder line (talker line) (formatter line) z) (sym g_is) whole))

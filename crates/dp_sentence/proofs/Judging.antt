@@ -1,9 +1,10 @@
 -- The conditions of a sentence and the damages of a line, by the outcome of each check.
 use Rattle.std.proofs.Common.{◌≡◌, ℕ, ◌<◌, ◌≤◌, List, [], ◌∷◌, Bool, true, false, length, refl, arith, eq-eqb, get_or, Option, Some, None, Result, Ok, Err, sym, ◌∙◌, subst}
 use Rattle.std.specs.Prelude.{◌↔◌, ◌==◌, nat_lt, position, IsOk}
-use Rattle.std.specs.List.{position_or_len}
+use Rattle.std.specs.List.{list_any, position_or_len}
 use Rattle.std.specs.Result.{result_err}
 use Rattle.std.proofs.lemmas.Bool.Decides.{nat_tests, Decides-eqb}
+use Rattle.std.proofs.lemmas.List.Folds.{list_any_at}
 use Rattle.std.proofs.lemmas.List.Sums.{fails_before_first, passes_at_first}
 use Rattle.std.proofs.lemmas.List.Elements.{All-from_get_or, All-get_or}
 use Rattle.dp_sentence.specs.Checksum.{checksum, has_checksum_field, said}
@@ -43,6 +44,16 @@ printable-has line all = by_test (nat_lt (position_or_len is_bad line) (length l
     by_test true is =
         let lt : position_or_len is_bad line < length line = grind (arith, nat_tests) in
         absurd (bad-not _ (passes_at_first is_bad line 0 lt) (All-get_or IsPrintable line (position_or_len is_bad line) 0 lt all))
+    by_test false is = rw is
+
+-- where no byte is bad there is no first one
+pub none-bad : (line : List ℕ) → list_any is_bad line ≡ false → position is_bad line ≡ None
+none-bad line none = by_test (nat_lt (position_or_len is_bad line) (length line)) refl
+  where
+    by_test : (v : Bool) → nat_lt (position_or_len is_bad line) (length line) ≡ v → position is_bad line ≡ None
+    by_test true is =
+        let lt : position_or_len is_bad line < length line = grind (arith, nat_tests) in
+        let some = list_any_at is_bad line (position_or_len is_bad line) 0 lt (passes_at_first is_bad line 0 lt) in absurd cc
     by_test false is = rw is
 
 is-short : (line : List ℕ) → nat_lt 160 (length line) ≡ false → IsShort line
@@ -183,3 +194,7 @@ module _ {T : Type 0} where
     (λ ok. to-sentence line _ _ _ _ _ _ (all-checked line) (sym is ∙ no-err r ok)),
     (λ s. is-ok-of r (is ∙ from-sentence line s)),
   )
+
+-- a line without damage is a sentence
+pub ok-sentence : (line : List ℕ) → None ≡ damage line → IsSentence line
+ok-sentence line none = (sentence-is {T = Unit {0}} line (Ok tt) none).0 refl

@@ -1,5 +1,5 @@
 //! The parts of a body between its commas.
-ghost use Rattle.std.specs.Prelude.{◌≡◌, ◌<◌, ◌∷◌, ◌↔◌, length, map, IsNone, IfSome};
+ghost use Rattle.std.specs.Prelude.{◌≡◌, ◌<◌, ◌≤◌, [], ◌∷◌, ◌↔◌, count_by, drop, length, map, slice_index_or, take, IsNone, IsSome, IfSome};
 ghost use Rattle.std.specs.List.{position_or_len};
 ghost use Rattle.std.specs.Option.{ForSome};
 ghost use Rattle.dp_sentence.specs.{is_comma, parts, parts_after};
@@ -8,13 +8,42 @@ use arrayvec::ArrayVec;
 
 const COMMA: u8 = b',';
 
-const MAX_FIELDS: usize = 24;
+const MAX_FIELDS: u8 = 24;
 
-/// How many bytes come before the first comma.
-fn before_comma(text: &[u8]) -> usize
-    ensures { result ≡ position_or_len is_comma text.now }
+/// The address of a body, whose first data fields are kept, as many as there is room for; none if it has more than 24 data fields.
+pub(crate) fn split<'a, const N: usize>(
+    body: &'a [u8],
+    into: &mut ArrayVec<&'a [u8], N>,
+) -> Option<&'a [u8]>
+    requires short { length body.now ≤ 255 }
+    requires empty { into.old.items ≡ [] }
+    ensures address { IfSome result (λ a. a.now ≡ slice_index_or (parts body.now) 0 []) }
+    ensures kept { IsSome result
+        → map (λ field. field.now) into.new.items ≡ take N (drop 1 (parts body.now)) }
+    ensures none { IsNone result ↔ (25 < length (parts body.now)) }
 {
-    text.iter().take_while(|byte| **byte != COMMA).count()
+    if commas(body) > MAX_FIELDS {
+        return None;
+    }
+    let (address, rest) = cut(body);
+    keep(rest, into);
+    Some(address)
+}
+
+/// Keeps the first parts of what is left, as many as there is room for.
+fn keep<'a, const N: usize>(rest: Option<&'a [u8]>, into: &mut ArrayVec<&'a [u8], N>)
+    requires { into.old.items ≡ [] }
+    ensures { map (λ field. field.now) into.new.items ≡ take N (parts_after rest.entry) }
+{
+    let mut rest = rest;
+    while let Some(tail) = rest {
+        if into.is_full() {
+            return;
+        }
+        let (field, more) = cut(tail);
+        into.push(field);
+        rest = more;
+    }
 }
 
 /// The bytes before the first comma, and those after it, if there is one.
@@ -30,21 +59,21 @@ fn cut(text: &[u8]) -> (&[u8], Option<&[u8]>)
     }
 }
 
-/// The address and the data fields of a body; none if it has more than 24 data fields.
-pub(crate) fn split(body: &[u8]) -> Option<(&[u8], ArrayVec<&[u8], 24>)>
-    ensures some { IfSome result
-        (λ s. parts body.now ≡ s.0.now ∷ map (λ field. field.now) s.1.items) }
-    ensures none { IsNone result ↔ (25 < length (parts body.now)) }
+/// How many bytes come before the first comma.
+fn before_comma(text: &[u8]) -> usize
+    ensures { result ≡ position_or_len is_comma text.now }
 {
-    let (address, mut rest) = cut(body);
-    let mut fields = ArrayVec::new();
-    while let Some(tail) = rest {
-        if fields.len() == MAX_FIELDS {
-            return None;
-        }
-        let (field, more) = cut(tail);
-        fields.push(field);
-        rest = more;
+    text.iter().take_while(|byte| **byte != COMMA).count()
+}
+
+/// How many commas there are.
+fn commas(text: &[u8]) -> u8
+    requires { length text.now ≤ 255 }
+    ensures { result ≡ count_by is_comma text.now }
+{
+    let mut count = 0;
+    for byte in text {
+        count += u8::from(*byte == COMMA);
     }
-    Some((address, fields))
+    count
 }

@@ -28,6 +28,7 @@
 //!
 //! [`read`] gives a sentence exactly where the line is one, and else exactly the first [`Damage`] in their order, with its numbers.
 //! What it gives are slices of the line, which stand in it one after another.
+//! [`read_first`] does the same and keeps the first data fields alone.
 //! [`laws`] has what follows for every line: a sentence written back is its line but for the case of the two digits, and a sentence
 //! with one byte of its body changed is none.
 //!
@@ -43,7 +44,7 @@ mod reading;
 mod tests;
 
 use arrayvec::ArrayVec;
-pub use reading::read;
+pub use reading::{read, read_first};
 
 /// What is wrong with a line, in the order of the checks: the first that holds is reported.
 #[derive(Clone, Copy, Debug, PartialEq, Eq)]
@@ -60,6 +61,15 @@ pub enum Damage {
     BadSum { said: u8, found: u8 },
     /// More than 24 data fields follow the address.
     TooManyFields,
+}
+
+/// The address of a sentence, as slices of its line.
+#[derive(Clone, Copy)]
+pub struct AddressField<'a> {
+    /// As in [`Sentence`].
+    pub talker: &'a [u8],
+    /// As in [`Sentence`].
+    pub formatter: &'a [u8],
 }
 
 /// A sentence, as slices of its line.

@@ -1,3 +1,4 @@
-pub mod Prefixes
+pub mod OneName
 pub mod Places
+pub mod Prefixes
 pub mod Taken

@@ -20,3 +20,7 @@ failing_calls shelf = shelf.failing.items
 -- the number of the last call, 0 before the first
 abbrev pub last_call : MemoryShelf → ℕ
 last_call shelf = shelf.calls
+
+-- the most bytes that a call copies
+abbrev pub step_of : MemoryShelf → ℕ
+step_of shelf = shelf.step

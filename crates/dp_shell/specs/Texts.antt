@@ -1,5 +1,5 @@
 -- Texts by their names, and what a read gives of one.
-use Rattle.std.specs.Prelude.{◌≡◌, ◌<◌, ◌≤◌, ℕ, Bool, List, [], ◌∷◌, length, take, drop, nat_lt, is_some, Option, Some, None, Result, IfOk, IsSomeAnd, ⊤, if◌then◌else◌}
+use Rattle.std.specs.Prelude.{◌≡◌, ◌-◌, ◌<◌, ◌≤◌, ℕ, min, Bool, List, [], ◌∷◌, length, take, drop, nat_lt, is_some, Option, Some, None, Result, IfOk, IsSomeAnd, ⊤, if◌then◌else◌}
 use Rattle.std.specs.Str.{bytes_eq}
 
 -- names and their texts
@@ -26,12 +26,27 @@ pub record IsPart (text : List ℕ) (from n : ℕ) (into : List ℕ) : Type 0 wh
   pub copied : take n into ≡ take n (drop from text)
   pub end : n ≡ 0 → 0 < length into → length text ≤ from
 
+-- how many bytes a read gives that copies all it can, but at most so many: of those from this offset
+-- on, as many as there is room for
+abbrev pub count_given : ℕ → List ℕ → ℕ → ℕ → ℕ
+count_given most text from room = min most (min room (length text - from))
+
 -- where the files are told, a count is answered only for a name that is there, of whose text so
 -- many bytes were copied
 abbrev pub ReadsPart : {E : Type 0} → Option Files → List ℕ → ℕ → Result ℕ E → List ℕ → Type 0
 ReadsPart None name from result into = ⊤
 ReadsPart (Some files) name from result into =
     IfOk result (λ n. IsSomeAnd (text_named files name) (λ text. IsPart text from n into))
+
+-- a prefix of the text; nothing, where there is none
+abbrev pub IsPrefixOf : Option (List ℕ) → List ℕ → Type 0
+IsPrefixOf (Some text) part = part ≡ take (length part) text
+IsPrefixOf None part = part ≡ []
+
+-- where the files are told, this part was read of a text from its start on
+abbrev pub ReadsPrefix : Option Files → List ℕ → List ℕ → Type 0
+ReadsPrefix None name part = ⊤
+ReadsPrefix (Some files) name part = IsPrefixOf (text_named files name) part
 
 -- where the files are told, the name is there, `prefix` is its text up to the limit, and `is_cut`
 -- says whether there is more

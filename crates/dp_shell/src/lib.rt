@@ -7,8 +7,9 @@
 //! - [`MemoryShelf`] and [`MemorySink`] do the same and fail at the calls whose numbers they are given, so that a test can have each
 //!   read or write fail in turn.
 //! - [`FileShelf`] and [`StdSink`] are real files and standard output. They tell nothing of content: what a file holds, and what
-//!   becomes of the bytes written, is outside every proof.
-//! - [`read_whole`] reads a text to its end or up to a limit of bytes, and [`write_all`] writes a whole text.
+//!   becomes of the bytes written, is outside every proof. A file may be a pipe, and a call that a signal interrupts is tried again.
+//! - [`read_whole`] reads a text to its end or up to a limit of bytes, [`next_piece`] reads one as a stream, and [`write_all`] writes
+//!   a whole text.
 //!
 //! Failures are counted in a number that never falls and stays at 2^64 - 1 once it is there. `Failed` is answered only where the
 //! number of the name, or of the sink, rose in that call, or stands at 2^64 - 1. Want of memory is an answer of its own, and needs no cause.
@@ -18,6 +19,7 @@ mod file_shelf;
 mod memory_files;
 mod memory_shelf;
 mod memory_sink;
+mod pieces;
 mod plain_shelf;
 mod plain_sink;
 mod reading;
@@ -31,6 +33,7 @@ pub use file_shelf::FileShelf;
 pub use memory_files::fits_shelf;
 pub use memory_shelf::MemoryShelf;
 pub use memory_sink::MemorySink;
+pub use pieces::{Piece, next_piece};
 pub use plain_shelf::PlainShelf;
 pub use plain_sink::PlainSink;
 pub use reading::{FilePart, ReadTrouble, read_whole};

@@ -1,6 +1,6 @@
-ghost use Rattle.std.specs.Prelude.{◌≡◌, ◌≤◌, ◌↔◌, IsTrue, length};
+ghost use Rattle.std.specs.Prelude.{◌≡◌, ◌≤◌, ◌<◌, ◌↔◌, IsTrue, length};
 ghost use Rattle.std.specs.Option.{option_copied};
-ghost use Rattle.dp_shell.specs.{FitsShelf, IsPart, all_differ, files_of, names_of, place_of, text_named};
+ghost use Rattle.dp_shell.specs.{FitsShelf, IsPart, all_differ, count_given, files_of, names_of, place_of, text_named};
 
 /// Whether these files can be put on a shelf in memory: they are at most 8, all of different names.
 pub fn fits_shelf(files: &[(String, Vec<u8>)]) -> bool
@@ -47,9 +47,11 @@ pub(crate) fn find<'a>(files: &'a [(String, Vec<u8>)], name: &str) -> Option<&'a
     None
 }
 
-/// Copies bytes of a text from an offset on, and answers how many.
-pub(crate) fn copy_part(text: &[u8], from: u64, into: &mut [u8]) -> usize
-    ensures { IsPart text.now from result into.new }
+/// Copies bytes of a text from an offset on, at most so many, and answers how many.
+pub(crate) fn copy_part(text: &[u8], from: u64, most: usize, into: &mut [u8]) -> usize
+    requires { 0 < most }
+    ensures part { IsPart text.now from result into.new }
+    ensures count { result ≡ count_given most text.now from (length into.new) }
 {
     let Ok(start) = usize::try_from(from) else {
         return 0;
@@ -57,7 +59,7 @@ pub(crate) fn copy_part(text: &[u8], from: u64, into: &mut [u8]) -> usize
     if start >= text.len() {
         return 0;
     }
-    let count = into.len().min(text.len() - start);
+    let count = most.min(into.len().min(text.len() - start));
     into[..count].copy_from_slice(&text[start..start + count]);
     count
 }

@@ -50,7 +50,7 @@ impl Shelf for PlainShelf {
         ensures missing { IsErr result ↔ IsNone (text_named (files_on self.old) name.now) }
     {
         match find(&self.files, name) {
-            Some(text) => Ok(copy_part(text, from, into)),
+            Some(text) => Ok(copy_part(text, from, usize::MAX, into)),
             None => {
                 self.missing = self.missing.saturating_add(1);
                 Err(Failed)

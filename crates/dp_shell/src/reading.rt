@@ -2,10 +2,10 @@ ghost use Rattle.std.specs.Prelude.{◌≡◌, ◌≤◌, ◌<◌, [], ℕ, leng
 ghost use Rattle.dp_shell.specs.Faults.{NoneFalls, OthersStay, Rose};
 ghost use Rattle.dp_shell.specs.Texts.{ReadsWhole};
 
-use crate::Shelf;
+use crate::{Piece, Shelf, next_piece};
 use std::alloc::{AllocError, Global};
 
-/// How many bytes are asked for at once. A real file is opened anew for each piece.
+/// How many bytes are asked for at once.
 const PIECE: usize = 65536;
 
 /// Why a text was not read.
@@ -53,7 +53,6 @@ pub fn read_whole<F: Shelf>(
     };
     let mut text = Vec::new(alloc);
     let is_cut = fill(shelf, name, limit, &mut piece, &mut text)?;
-    text.truncate(limit);
     Ok(FilePart { text, is_cut })
 }
 
@@ -64,7 +63,7 @@ fn zeros(alloc: Global, count: usize) -> Result<Vec<u8>, AllocError>
     vec![in alloc; 0u8; count]
 }
 
-/// Reads a named text piece by piece, to its end or past a limit of bytes, and answers whether it passes this limit.
+/// Reads a named text piece by piece, to its end or up to a limit of bytes, and answers whether it passes this limit.
 fn fill<F: Shelf>(
     shelf: &mut F,
     name: &str,
@@ -74,9 +73,8 @@ fn fill<F: Shelf>(
 ) -> Result<bool, ReadTrouble>
     requires room { 0 < length piece.old }
     requires empty { text.old.items ≡ [] }
-    ensures whole { IfOk result (λ is_cut. ReadsWhole (F.files shelf.old) name.now limit
-        (take limit text.new.items) is_cut) }
-    ensures later { F.faults shelf.old name.now ≤ F.faults shelf.new name.now }
+    ensures whole { IfOk result (ReadsWhole (F.files shelf.old) name.now limit text.new.items) }
+    ensures size { length text.new.items ≤ limit }
     ensures failed { IsErrOf result ReadTrouble.Failed
         → Rose (F.faults shelf.old name.now) (F.faults shelf.new name.now) }
     ensures files { F.files shelf.new ≡ F.files shelf.old }
@@ -85,16 +83,16 @@ fn fill<F: Shelf>(
         (F.faults shelf.new) }
     ensures none_falls { NoneFalls (F.faults shelf.old) (F.faults shelf.new) }
 {
-    while text.len() <= limit {
-        let Ok(count) = shelf.read(name, text.len() as u64, piece) else {
-            return Err(ReadTrouble::Failed);
-        };
-        if count == 0 {
-            return Ok(false);
+    loop {
+        match next_piece(shelf, name, text.len() as u64, limit as u64, piece) {
+            Ok(Piece::Bytes { count }) => {
+                if text.extend_from_slice(&piece[..count]).is_err() {
+                    return Err(ReadTrouble::Memory);
+                }
+            }
+            Ok(Piece::End) => return Ok(false),
+            Ok(Piece::Cut) => return Ok(true),
+            Err(_) => return Err(ReadTrouble::Failed),
         }
-        let Ok(()) = text.extend_from_slice(&piece[..count]) else {
-            return Err(ReadTrouble::Memory);
-        };
     }
-    Ok(true)
 }

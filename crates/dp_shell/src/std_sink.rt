@@ -3,10 +3,9 @@ ghost use Rattle.std.specs.Io.{WritesAtMost};
 ghost use Rattle.std.specs.Io.KnownBytes.{WriteAppends};
 ghost use Rattle.dp_shell.specs.Faults.{HasWriteCause};
 
-use crate::settling::{one_more, settle};
+use crate::settling::{one_more, settle, write_once};
 use crate::{Sink, Trouble};
 use std::io;
-use std::io::Write;
 
 /// Standard output. It tells nothing of what was taken, and never answers want of memory.
 #[derive(Drop)]
@@ -42,7 +41,8 @@ impl<R: Print> Sink for StdSink<'_, R> {
         ensures never { IsErrOf result Trouble.Memory → ⊥ }
         ensures unfailed { IsOk result → faults_of self.new ≡ faults_of self.old }
     {
-        match settle(io::writer(self.rt).write(piece), !piece.is_empty()) {
+        let given = write_once(&mut io::writer(self.rt), piece);
+        match settle(given, !piece.is_empty()) {
             Some(count) => Ok(count),
             None => {
                 self.faults = one_more(self.faults);

@@ -42,6 +42,32 @@ fn memory_shelf_fails_at_its_calls_and_for_missing_names(
 }
 
 #[test]
+fn memory_shelf_copies_a_step_at_most(rt: HostRuntime) -> Result<(), AllocError> {
+    // the step, and how many bytes each call copies of five, where there is room for three
+    for (step, counts) in [
+        (1, [1, 1, 1, 1, 1, 0]),
+        (2, [2, 2, 1, 0, 0, 0]),
+        (3, [3, 2, 0, 0, 0, 0]),
+        (usize::MAX, [3, 2, 0, 0, 0, 0]),
+    ] {
+        let files = shelf_files(rt.alloc(), "record", b"abcde")?;
+        assert!(rt; fits_shelf(&files) && step > 0);
+        let mut shelf = MemoryShelf::in_steps(files, Vec::new(rt.alloc()), step);
+        let mut into = [0u8; 3];
+        let mut from = 0u64;
+        for count in counts {
+            assert_eq!(rt;
+                shelf.read("record", from, &mut into),
+                Ok(count),
+                "step {step}"
+            );
+            from = from.saturating_add(count as u64);
+        }
+    }
+    Ok(())
+}
+
+#[test]
 fn memory_sink_fails_at_its_calls(rt: HostRuntime) -> Result<(), AllocError> {
     let mut sink = MemorySink::new(rt.alloc(), vec![in rt.alloc(); 2u64, 3]?);
     for (call, count) in [Ok(2), Err(Trouble::Failed), Err(Trouble::Failed), Ok(2)]
@@ -78,6 +104,45 @@ fn whole_text_goes_from_shelf_to_sink(rt: HostRuntime) -> Result<(), AllocError>
     }
     let missing = read_whole(rt.alloc(), &mut shelf, "plant", 5);
     assert!(rt; matches!(missing, Err(ReadTrouble::Failed)));
+    Ok(())
+}
+
+#[test]
+fn text_comes_in_pieces_up_to_a_limit(rt: HostRuntime) -> Result<(), AllocError> {
+    let text = b"frame by frame";
+    // the limit, the shelf's step, and what comes: how many pieces, of how many bytes in all
+    for (limit, step, pieces, size, is_cut) in [
+        (20, 9, 4, 14, false),
+        (20, 1, 14, 14, false),
+        (14, 9, 4, 14, false),
+        (13, 9, 4, 13, true),
+        (12, 9, 3, 12, true),
+        (5, 3, 2, 5, true),
+        (0, 9, 0, 0, true),
+    ] {
+        let files = shelf_files(rt.alloc(), "record", text)?;
+        assert!(rt; fits_shelf(&files) && step > 0);
+        let mut shelf = MemoryShelf::in_steps(files, Vec::new(rt.alloc()), step);
+        let mut sink = PlainSink::new(rt.alloc());
+        let mut into = [0u8; 4];
+        let mut from = 0u64;
+        for k in 0..=pieces {
+            assert!(rt; from <= limit, "at {limit}");
+            let end = match next_piece(&mut shelf, "record", from, limit, &mut into) {
+                Ok(Piece::Bytes { count }) => {
+                    assert_eq!(rt; write_all(&mut sink, &into[..count]), Ok(()));
+                    from = from.saturating_add(count as u64);
+                    None
+                }
+                Ok(Piece::End) => Some(false),
+                Ok(Piece::Cut) => Some(true),
+                Err(_) => panic!(rt; "not read at {from}"),
+            };
+            let last = if k == pieces { Some(is_cut) } else { None };
+            assert_eq!(rt; end, last, "piece {k} at {limit}");
+        }
+        assert_eq!(rt; sink.bytes(), &text[..size], "at {limit}");
+    }
     Ok(())
 }
 

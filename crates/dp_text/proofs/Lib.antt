@@ -1,3 +1,4 @@
 pub mod FirstLine
 pub mod FirstPart
 pub mod Digits
+pub mod Places

@@ -5,6 +5,7 @@
 //! std prints it. Reading takes no memory and answers slices of the text; printing appends to a buffer of fixed capacity.
 #![tactic(auto)]
 
+pub mod laws;
 mod lines;
 mod numbers;
 mod parts;
@@ -13,4 +14,4 @@ mod printing;
 pub use lines::next_line;
 pub use numbers::{decimal, number};
 pub use parts::{cut, split_parts};
-pub use printing::{append, append_decimal, append_number};
+pub use printing::{append, append_decimal, append_number, append_wide};

@@ -35,3 +35,13 @@ pub fn append_number<const N: usize>(into: &mut ArrayVec<u8, N>, number: i64)
     let mut buffer = Buffer::new();
     append(into, buffer.format(number).as_bytes());
 }
+
+/// The same of a number of up to 128 bits; at most 40 bytes.
+pub fn append_wide<const N: usize>(into: &mut ArrayVec<u8, N>, number: i128)
+    requires { array_vec_len into.old + 40 ≤ N }
+    ensures text { into.new.items ≡ into.old.items ++ signed_decimal number }
+    ensures len { array_vec_len into.new ≤ array_vec_len into.old + 40 }
+{
+    let mut buffer = Buffer::new();
+    append(into, buffer.format(number).as_bytes());
+}

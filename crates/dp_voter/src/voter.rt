@@ -1,7 +1,7 @@
-ghost use Rattle.std.specs.Prelude.{◌≡◌, ◌≢◌, ◌<◌, ◌≤ℤ◌, [], ◌∷◌, Some, IsNone, IsSome};
+ghost use Rattle.std.specs.Prelude.{◌≡◌, ◌≢◌, ◌<◌, ◌≤ℤ◌, [], ◌∷◌, Some, IsNone, IsSome, pos};
 ghost use Rattle.dp_fixed.specs.{mid3_of};
 ghost use Rattle.dp_voter.specs.declared.order.Took.{Took};
-ghost use Rattle.dp_voter.specs.Ballots.{agreed_of, held_forces};
+ghost use Rattle.dp_voter.specs.{IsDue, IsReasonFor, agreed_of, answer_of, ballot_of, begun, held_forces, new_voter, ordered, voted};
 
 use crate::{Ballot, Took};
 use dp_fixed::mid3;
@@ -36,9 +36,6 @@ impl Model for Voter {
 
 /// A place of a list of voters that is not used: a voter of a thruster that gives no force.
 impl Default for Voter {
-    ghost use Rattle.std.specs.Prelude.{◌≡◌, pos};
-    ghost use Rattle.dp_voter.specs.VoterState.{new_voter};
-
     ghost is_default = { λ v. v ≡ new_voter (pos 0) (pos 0) };
 
     fn default() -> Voter {
@@ -46,35 +43,7 @@ impl Default for Voter {
     }
 }
 
-fn middle(a: i64, b: i64, c: i64) -> i64
-    ensures { result ≡ mid3_of a b c }
-{
-    mid3(a as i128, b as i128, c as i128) as i64
-}
-
-fn equal(a: i64, b: i64) -> Option<i64>
-    ensures { result ≡ agreed_of (a ∷ b ∷ []) }
-{
-    if a == b { Some(a) } else { None }
-}
-
-fn agreed(first: Option<i64>, second: Option<i64>, third: Option<i64>) -> Option<i64>
-    ensures { result ≡ agreed_of (held_forces (first ∷ second ∷ third ∷ [])) }
-{
-    match (first, second, third) {
-        (Some(a), Some(b), Some(c)) => Some(middle(a, b, c)),
-        (Some(a), Some(b), None) => equal(a, b),
-        (Some(a), None, Some(b)) => equal(a, b),
-        (None, Some(a), Some(b)) => equal(a, b),
-        _ => None,
-    }
-}
-
 impl Voter {
-    ghost use Rattle.dp_voter.specs.VoterState.{begun, new_voter};
-    ghost use Rattle.dp_voter.specs.Orders.{IsReasonFor, answer_of, ordered};
-    ghost use Rattle.dp_voter.specs.Ballots.{IsDue, ballot_of, voted};
-
     /// A voter of a thruster with these limits, in newtons, before its first cycle.
     pub fn new(min: i64, max: i64) -> Voter
         requires { min ≤ℤ max }
@@ -162,4 +131,28 @@ impl Voter {
     {
         self.orders
     }
+}
+
+fn agreed(first: Option<i64>, second: Option<i64>, third: Option<i64>) -> Option<i64>
+    ensures { result ≡ agreed_of (held_forces (first ∷ second ∷ third ∷ [])) }
+{
+    match (first, second, third) {
+        (Some(a), Some(b), Some(c)) => Some(middle(a, b, c)),
+        (Some(a), Some(b), None) => equal(a, b),
+        (Some(a), None, Some(b)) => equal(a, b),
+        (None, Some(a), Some(b)) => equal(a, b),
+        _ => None,
+    }
+}
+
+fn middle(a: i64, b: i64, c: i64) -> i64
+    ensures { result ≡ mid3_of a b c }
+{
+    mid3(a as i128, b as i128, c as i128) as i64
+}
+
+fn equal(a: i64, b: i64) -> Option<i64>
+    ensures { result ≡ agreed_of (a ∷ b ∷ []) }
+{
+    if a == b { Some(a) } else { None }
 }

@@ -1,25 +1,31 @@
-//! Rows of events, each with what is seen of it.
+//! Rows of events on the sample vessel S1, each with what is seen of it. The answers come from a separate program.
 //!
-//! A row is `name~EVENT=SEEN ..~modes~orders of voter 0~of voter 1~of voter 2`. Events: `w,NORTH,EAST` a Wire on which the three
+//! A row is `name~EVENT=SEEN ..~modes~orders of voter 0~of voter 1~alarms`. Events: `w,NORTH,EAST` a Wire on which the three
 //! references read one place (`w` alone: nothing), `r,C` a Run, `o,FROM,VOTER` an Order, `v,VOTER` a Vote, `k,C,NORTH,EAST` a Skew,
-//! `s,FROM,VOTER,CYCLE,FORCE` a Say, `x,C` a Stop. Seen: `K`, `O`, `D` of each computer (kept, overrun, deaf), `i,CYCLE,FORCES` an
-//! issue, else the answer's name.
-ghost use Rattle.std.specs.Prelude.{◌≡◌, ◌^◌};
-ghost use Rattle.dp_plant.specs.{IsFrameWithin, IsPlaceSlotWithin, IsVectorWithin};
+//! `s,FROM,VOTER,CYCLE,FORCE` a Say, `x,C` a Stop. Seen: `K`, `O`, `D` of each computer (kept, overrun, deaf), `i,CYCLE,FORCE,FORCE` an
+//! issue with the forces of the first two thrusters, the others' being 0, else the answer's name. Alarms: `a` where a computer's issue of
+//! this cycle has shown them.
+ghost use Rattle.std.specs.Prelude.{◌≡◌, ◌^◌, None};
+ghost use Rattle.dp_plant.specs.{IsFrameInRange, IsPlaceSlotWithin, IsVectorWithin};
 ghost use Rattle.dp_core.specs.{IsAllowed};
 
 use super::*;
-use dp_machine::laws::built_in_plant_is_sound;
-use dp_plant::{Slot, p0};
+use dp_alloc::first_refused;
+use dp_cert::accept;
+use dp_plant::samples::{S1, text_of};
+use dp_plant::{Slot, plant_of};
+use dp_trig::Trig;
 use std::process::Abort;
 
 #[test]
 fn gives_the_answers_of_the_rows(rt: HostRuntime) -> Result<(), Memory> {
-    built_in_plant_is_sound();
-    let plant = p0();
+    let text = text_of(rt.alloc(), S1).expect(&rt, "memory");
+    let plant = plant_of(rt.alloc(), text.as_bytes()).expect(&rt, "a plant");
+    assert!(rt; first_refused(&plant, &Trig::new()).is_none());
+    let accepted = accept(&plant.gains, &plant.yaw, &plant.cert).expect(&rt, "accepted gains");
     let rows = ROWS;
     for row in rows {
-        follow(&rt, World::new(rt.alloc(), &plant)?, row);
+        follow(&rt, World::new(rt.alloc(), &plant, &accepted)?, row);
     }
     Ok(())
 }
@@ -41,7 +47,12 @@ fn event(rt: &impl Abort, world: &World, call: &str) -> Event
 {
     let [verb, a, b, c, d] = parts(call);
     if verb == "w" {
-        return Event::Wire(frame(rt, world.cycles_begun, reading(rt, a, b)));
+        return Event::Wire(frame(
+            rt,
+            world.cycles_begun,
+            reading(rt, a, b),
+            world.plant.groups,
+        ));
     }
     let first = small(a);
     if verb == "v" {
@@ -105,8 +116,8 @@ fn is_heard(answer: Heard, wanted: &str) -> bool {
 }
 
 fn is_issue(issue: &Issue, wanted: [&str; 4]) -> bool {
-    let [cycle, surge, sway, yaw] = wanted;
-    let forces = [number(surge), number(sway), number(yaw)];
+    let [cycle, first, second, _] = wanted;
+    let forces = [number(first), number(second), 0, 0, 0, 0];
     issue.cycle == u64::from(small(cycle)) && issue.forces.as_slice() == forces.as_slice()
 }
 
@@ -120,20 +131,26 @@ fn is_sent(took: Option<Took>, a: &str, b: &str) -> bool {
     }
 }
 
-/// The modes, and the orders that each of three voters took.
+/// The modes, the orders that each of two voters took, and whether the computers' alarms of this cycle are there.
 fn is_shown(rt: &impl Abort, world: &World, wanted: &str) -> bool {
     let (modes, rest) = wanted.split_once('~').unwrap_or(("", ""));
-    let (surge, rest) = rest.split_once('~').unwrap_or(("", ""));
-    let (sway, yaw) = rest.split_once('~').unwrap_or(("", ""));
-    assert!(rt; world.plant.thrusters.len() == 3);
+    let (orders, rest) = rest.split_once('~').unwrap_or(("", ""));
+    let (others, alarms) = rest.split_once('~').unwrap_or(("", ""));
+    assert!(rt; world.plant.thrusters.len() == 6);
     let [first, second, third] = world.modes();
     let [a, b, c, _, _] = parts(modes);
     is_mode(first, a)
         && is_mode(second, b)
         && is_mode(third, c)
-        && is_held(world.held(0), surge)
-        && is_held(world.held(1), sway)
-        && is_held(world.held(2), yaw)
+        && is_held(world.held(0), orders)
+        && is_held(world.held(1), others)
+        && are_alarms(&world.alarms(), alarms)
+}
+
+fn are_alarms(alarms: &[Option<Alarms>; 3], wanted: &str) -> bool {
+    let [first, second, third] = alarms;
+    let [a, b, c, _, _] = parts(wanted);
+    first.is_some() == (a == "a") && second.is_some() == (b == "a") && third.is_some() == (c == "a")
 }
 
 fn is_mode(mode: Mode, wanted: &str) -> bool {
@@ -198,36 +215,34 @@ fn reading(rt: &impl Abort, north: &str, east: &str) -> Slot<Place>
     }
 }
 
-fn frame(rt: &impl Abort, cycle: u64, reading: Slot<Place>) -> Frame
+fn frame(rt: &impl Abort, cycle: u64, reading: Slot<Place>, groups: u8) -> Frame
     requires { IsPlaceSlotWithin reading }
     ensures cycle { result.cycle ≡ cycle }
-    ensures within { IsFrameWithin result }
+    ensures range { IsFrameInRange groups result }
 {
     assert!(rt; cycle < 1 << 20);
     Frame {
         cycle,
         pos: [reading; 3],
-        gyro: [Slot {
-            last: None,
-            damage: 0,
-            skipped: 0,
-        }; 3],
-        wind: [Slot {
-            last: None,
-            damage: 0,
-            skipped: 0,
-        }; 3],
-        group: [Slot {
-            last: None,
-            damage: 0,
-            skipped: 0,
-        }; 8],
+        gyro: [silent(); 3],
+        wind: [silent(); 3],
+        group: [silent(); 8],
+    }
+}
+
+fn silent<T>() -> Slot<T>
+    ensures { result.last ≡ None }
+{
+    Slot {
+        last: None,
+        damage: 0,
+        skipped: 0,
     }
 }
 
 const ROWS: [&str; 4] = [
-    "a skewed computer runs on from its own state~w,0,0=K,K,K r,0=i,0,0,0,0 r,1=i,0,0,0,0 r,2=i,0,0,0,0 o,0,0=taken o,0,1=taken o,0,2=taken o,1,0=taken o,1,1=taken o,1,2=taken o,2,0=taken o,2,1=taken o,2,2=taken v,0=F,0 v,1=F,0 v,2=F,0 w,0,0=K,K,K k,1,1000000000,0=live r,0=i,1,0,0,0 r,1=i,1,-156250,0,0 r,2=i,1,0,0,0 o,0,0=taken o,0,1=taken o,0,2=taken o,1,0=taken o,1,1=taken o,1,2=taken o,2,0=taken o,2,1=taken o,2,2=taken v,0=F,0 v,1=F,0 v,2=F,0 w,0,0=K,K,K r,0=i,2,0,0,0 r,1=i,2,-83984,0,0 r,2=i,2,0,0,0 o,0,0=taken o,0,1=taken o,0,2=taken o,1,0=taken o,1,1=taken o,1,2=taken o,2,0=taken o,2,1=taken o,2,2=taken v,0=F,0 v,1=F,0 v,2=F,0~L,L,L~0,-83984,0~0,0,0~0,0,0",
-    "a computer says a false force~w,1000000,0=K,K,K r,0=i,0,0,0,0 r,1=i,0,0,0,0 r,2=i,0,0,0,0 o,0,0=taken o,0,1=taken o,0,2=taken o,1,0=taken o,1,1=taken o,1,2=taken o,2,0=taken o,2,1=taken o,2,2=taken v,0=F,0 v,1=F,0 v,2=F,0 w,1000000,0=K,K,K r,0=i,1,-68,0,0 r,1=i,1,-68,0,0 r,2=i,1,-68,0,0 s,1,0,1,999=taken o,0,0=taken o,0,1=taken o,0,2=taken o,1,0=repeated o,1,1=taken o,1,2=taken o,2,0=taken o,2,1=taken o,2,2=taken v,0=F,-68 v,1=F,0 v,2=F,0~L,L,L~-68,999,-68~0,0,0~0,0,0",
-    "sixteen frames wait, and one more is an overrun~w,1000000,0=K,K,K r,0=i,0,0,0,0 r,1=i,0,0,0,0 w,1000000,0=K,K,K r,0=i,1,-68,0,0 r,1=i,1,-68,0,0 w,1000000,0=K,K,K r,0=i,2,-131,0,0 r,1=i,2,-131,0,0 w,1000000,0=K,K,K r,0=i,3,-189,0,0 r,1=i,3,-189,0,0 w,1000000,0=K,K,K r,0=i,4,-241,0,0 r,1=i,4,-241,0,0 w,1000000,0=K,K,K r,0=i,5,-289,0,0 r,1=i,5,-289,0,0 w,1000000,0=K,K,K r,0=i,6,-332,0,0 r,1=i,6,-332,0,0 w,1000000,0=K,K,K r,0=i,7,-371,0,0 r,1=i,7,-371,0,0 w,1000000,0=K,K,K r,0=i,8,-371,0,0 r,1=i,8,-371,0,0 w,1000000,0=K,K,K r,0=i,9,-371,0,0 r,1=i,9,-371,0,0 w,1000000,0=K,K,K r,0=i,10,-371,0,0 r,1=i,10,-371,0,0 w,1000000,0=K,K,K r,0=i,11,-371,0,0 r,1=i,11,-371,0,0 w,1000000,0=K,K,K r,0=i,12,-371,0,0 r,1=i,12,-371,0,0 w,1000000,0=K,K,K r,0=i,13,-371,0,0 r,1=i,13,-371,0,0 w,1000000,0=K,K,K r,0=i,14,-371,0,0 r,1=i,14,-371,0,0 w,1000000,0=K,K,K r,0=i,15,-371,0,0 r,1=i,15,-371,0,0 w,1000000,0=K,K,O r,0=i,16,-371,0,0 r,1=i,16,-371,0,0 r,2=aligning o,2,0=unsent o,0,0=taken o,1,0=taken v,0=F,-371~L,L,A~-371,-371,-~-,-,-~-,-,-",
-    "a stopped computer is deaf, and the last force is held for five cycles~w,1000000,0=K,K,K r,0=i,0,0,0,0 r,0=idle r,1=i,0,0,0,0 r,2=i,0,0,0,0 o,0,0=taken o,1,0=taken o,2,0=taken v,0=F,0 o,0,0=stale,0 x,2=done r,2=off o,2,0=unsent k,2,0,0=dead w,1000000,0=K,K,D r,0=i,1,-68,0,0 o,0,0=taken o,1,0=stale,1 s,1,0,1,50000001=unfit,50000000 s,1,0,1,7=taken s,1,0,1,7=repeated v,0=H,0 v,0=H,0 w=K,K,D v,0=H,0 w=K,K,D v,0=H,0 w=K,K,D v,0=H,0 w=K,K,D v,0=H,0 w=K,K,D v,0=Z~L,L,O~-,-,-~-,-,-~-,-,-",
+    "a skewed computer runs on from its own state~w,0,0=K,K,K r,0=i,0,0,0 r,1=i,0,0,0 r,2=i,0,0,0 o,0,0=taken o,1,0=taken o,2,0=taken v,0=F,0 w,0,0=K,K,K k,1,1000000000,0=live r,0=i,1,0,0 r,1=i,1,-391,-391 r,2=i,1,0,0 o,0,0=taken o,1,0=taken o,2,0=taken v,0=F,0 w,0,0=K,K,K r,0=i,2,0,0 r,1=i,2,-211,-210 r,2=i,2,0,0 o,0,0=taken o,1,0=taken o,2,0=taken o,1,1=taken v,0=F,0~L,L,L~0,-211,0~-,-210,-~a,a,a",
+    "a computer says a false force~w,1000000000,0=K,K,K r,0=i,0,0,0 r,1=i,0,0,0 r,2=i,0,0,0 w,1000000000,0=K,K,K r,0=i,1,-171,-171 r,1=i,1,-171,-171 r,2=i,1,-171,-171 s,1,0,1,999=taken o,0,0=taken o,1,0=repeated o,2,0=taken v,0=F,-171 o,0,1=taken~L,L,L~-171,999,-171~-171,-,-~a,a,a",
+    "sixteen frames wait, and one more is an overrun~w,1000000000,0=K,K,K r,0=i,0,0,0 w,1000000000,0=K,K,K r,0=i,1,-171,-171 w,1000000000,0=K,K,K r,0=i,2,-329,-329 w,1000000000,0=K,K,K r,0=i,3,-474,-474 w,1000000000,0=K,K,K r,0=i,4,-607,-607 w,1000000000,0=K,K,K r,0=i,5,-728,-728 w,1000000000,0=K,K,K r,0=i,6,-839,-838 w,1000000000,0=K,K,K r,0=i,7,-939,-938 w,1000000000,0=K,K,K r,0=i,8,-939,-938 w,1000000000,0=K,K,K r,0=i,9,-939,-938 w,1000000000,0=K,K,K r,0=i,10,-939,-938 w,1000000000,0=K,K,K r,0=i,11,-939,-938 w,1000000000,0=K,K,K r,0=i,12,-939,-938 w,1000000000,0=K,K,K r,0=i,13,-939,-938 w,1000000000,0=K,K,K r,0=i,14,-939,-938 w,1000000000,0=K,K,K r,0=i,15,-939,-938 w,1000000000,0=K,O,O r,0=i,16,-939,-938 r,2=aligning o,2,0=unsent o,0,0=taken v,0=Z~L,A,A~-939,-,-~-,-,-~a,-,-",
+    "a stopped computer is deaf, and the last force is held for five cycles~w,1000000000,0=K,K,K r,0=i,0,0,0 r,0=idle r,1=i,0,0,0 r,2=i,0,0,0 o,0,0=taken o,1,0=taken o,2,0=taken v,0=F,0 o,0,0=stale,0 x,2=done r,2=off o,2,0=unsent k,2,0,0=dead w,1000000000,0=K,K,D r,0=i,1,-171,-171 o,0,0=taken o,1,0=stale,1 s,1,0,1,250001=unfit,250000 s,1,0,1,7=taken s,1,0,1,7=repeated v,0=H,0 v,0=H,0 w=K,K,D v,0=H,0 w=K,K,D v,0=H,0 w=K,K,D v,0=H,0 w=K,K,D v,0=H,0 w=K,K,D v,0=Z~L,L,O~-,-,-~-,-,-~-,-,-",
 ];

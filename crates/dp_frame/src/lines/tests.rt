@@ -1,19 +1,25 @@
 //! Records, with the answers that the format's description gives them.
 use super::*;
 use crate::LineFault::{BadTime, LongLine, NoTime, NoWire, TimeBack, UnknownWire};
-use dp_plant::{Frame, Gust, Place, p0};
+use dp_plant::samples::{S1, text_of};
+use dp_plant::{Frame, Gust, Place, plant_of};
 use std::alloc::{AllocError, Global};
 use std::process::Abort;
+use std::test::Fail;
 
-#[tactic(auto, unfolding(dp_plant::specs::BuiltInPlant::built_in_plant))]
-fn reader() -> Lines {
-    Lines::new(&p0(), &Trig::new())
+/// A reader of records, by the sample plant.
+#[tactic(auto, using(dp_plant::proofs::PlantFacts::plant_facts))]
+fn reader(rt: &impl Abort, alloc: Global) -> Result<Lines, Fail> {
+    let text = text_of(alloc, S1)?;
+    let plant = plant_of(alloc, text.as_bytes())?;
+    assert!(rt; plant.cycle_ms > 0 && plant.groups <= 8);
+    Ok(Lines::new(&plant, &Trig::new()))
 }
 
 /// The answers to the bytes of a record, without `More` and without one that is the same as that before it, and then those of four
 /// calls of `finish`.
-fn answers(rt: &impl Abort, alloc: Global, record: &[u8]) -> Result<Vec<Feed>, AllocError> {
-    let mut lines = reader();
+fn answers(rt: &impl Abort, alloc: Global, record: &[u8]) -> Result<Vec<Feed>, Fail> {
+    let mut lines = reader(rt, alloc)?;
     let mut said = Vec::new(alloc);
     let mut last = Feed::More;
     for byte in record {
@@ -44,7 +50,7 @@ fn placed(cycle: u64, reference: usize, north: i64, east: i64) -> Frame {
 }
 
 #[test]
-fn frames_of_a_record(rt: HostRuntime) -> Result<(), AllocError> {
+fn frames_of_a_record(rt: HostRuntime) -> Result<(), Fail> {
     let record = b"0 pos0 $GPGGA,123519,4807.038,N,01131.000,E,1,08,0.9,545.4,M,46.9,M,,*47\r\n\
         \n\
         10 pos0 $GPGGA,123519,4807.038,N,01131.000,E,1,08,0.9,545.4,M,46.9,M,,*46\n\
@@ -88,7 +94,7 @@ fn frames_of_a_record(rt: HostRuntime) -> Result<(), AllocError> {
 }
 
 #[test]
-fn frames_at_the_ends_of_a_record(rt: HostRuntime) -> Result<(), AllocError> {
+fn frames_at_the_ends_of_a_record(rt: HostRuntime) -> Result<(), Fail> {
     let more = Feed::More;
     for nothing in [b"".as_slice(), b"\n", b"\r\n\n"] {
         assert_eq!(rt;
@@ -145,7 +151,7 @@ fn long_line(alloc: Global, length: usize, end: &[u8]) -> Result<Vec<u8>, AllocE
 }
 
 #[test]
-fn lines_of_192_bytes_are_good(rt: HostRuntime) -> Result<(), AllocError> {
+fn lines_of_192_bytes_are_good(rt: HostRuntime) -> Result<(), Fail> {
     let mut damaged = empty_frame(0);
     damaged.pos[0].damage = 1;
     for end in [b"".as_slice(), b"\n", b"\r\n"] {
@@ -187,7 +193,7 @@ fn lines_of_192_bytes_are_good(rt: HostRuntime) -> Result<(), AllocError> {
 }
 
 #[test]
-fn the_first_line_that_cannot_be_taken_is_named(rt: HostRuntime) -> Result<(), AllocError> {
+fn the_first_line_that_cannot_be_taken_is_named(rt: HostRuntime) -> Result<(), Fail> {
     for (record, line, kind) in [
         (b"x\n".as_slice(), 1, NoTime),
         (b"\n\n 0 pos0\n9\n", 3, NoTime),
@@ -242,5 +248,52 @@ fn the_first_line_that_cannot_be_taken_is_named(rt: HostRuntime) -> Result<(), A
         ]
         .as_slice()
     );
+    Ok(())
+}
+
+/// The same answers of a record that is cut into pieces of so many bytes.
+fn answers_in_pieces(
+    rt: &impl Abort,
+    alloc: Global,
+    record: &[u8],
+    size: usize,
+) -> Result<Vec<Feed>, Fail> {
+    let mut lines = reader(rt, alloc)?;
+    let mut said = Vec::new(alloc);
+    let mut last = Feed::More;
+    let mut fed = 0;
+    while fed < record.len() {
+        let end = fed + size.min(record.len() - fed);
+        let piece = &record[fed..end];
+        assert!(rt; !piece.is_empty() && piece.len() < 1 << 20);
+        assert!(rt; matches!(lines.phase, Phase::Open) && lines.bytes < 1 << 39);
+        let answer = lines.feed_piece(piece);
+        if answer.feed != Feed::More && answer.feed != last {
+            said.push(answer.feed)?;
+        }
+        last = answer.feed;
+        fed += answer.taken;
+    }
+    for _ in 0..4 {
+        said.push(lines.finish())?;
+    }
+    Ok(said)
+}
+
+#[test]
+fn pieces_say_what_bytes_say(rt: HostRuntime) -> Result<(), Fail> {
+    for record in [
+        b"0 pos0 L 1 2\r\n\n1999 pos1 L 3 4\r\n2000 gyro0 $HEHDT,90.0,T*16\r\n2000 pos0 L 5 6".as_slice(),
+        b"0 pos0 L 1 2\n1000 pos0 L 1 2\n1000 pos0\n999 pos0 L 1 2\n2000 pos0 L 1 2\n",
+        b"\n\n3000 pos0 L 1 2\n1048576000 pos0 L 0 0\n",
+    ] {
+        let want = answers(&rt, rt.alloc(), record)?;
+        for size in [1, 7, 4096] {
+            assert_eq!(rt;
+                answers_in_pieces(&rt, rt.alloc(), record, size)?.as_slice(),
+                want.as_slice()
+            );
+        }
+    }
     Ok(())
 }

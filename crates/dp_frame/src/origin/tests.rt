@@ -1,32 +1,30 @@
-ghost use Rattle.std.specs.Prelude.{◌≤◌, unsigned_abs};
-
 use crate::Origin;
-use dp_plant::{Place, p0};
+use dp_plant::samples::{S1, text_of};
+use dp_plant::{Place, plant_of};
 use dp_trig::Trig;
+use std::alloc::Global;
+use std::fmt::Write;
+use std::test::Fail;
 
 // The expected places come from a separate program in Python.
 
-fn origin_at(lat: i64, lon: i64) -> Origin
-    requires lat { unsigned_abs lat ≤ 53400000000 }
-    requires lon { unsigned_abs lon ≤ 108000000000 }
-{
-    let mut plant = p0();
-    plant.origin = [lat, lon];
-    Origin::of(&plant, &Trig::new())
+/// The origin of the sample plant, moved to a latitude and a longitude.
+#[tactic(auto, using(dp_plant::proofs::PlantFacts::plant_facts))]
+fn origin_at(alloc: Global, lat: i64, lon: i64) -> Result<Origin, Fail> {
+    let mut text = text_of(alloc, &S1[..3])?;
+    write!(text, "origin = [{lat}, {lon}]\n")?;
+    text.push_str(text_of(alloc, &S1[4..])?.as_str())?;
+    let plant = plant_of(alloc, text.as_bytes())?;
+    Ok(Origin::of(&plant, &Trig::new()))
 }
 
 fn place(north: i64, east: i64) -> Option<Place> {
     Some(Place { north, east })
 }
 
-#[tactic(auto, unfolding(dp_plant::specs::BuiltInPlant::built_in_plant))]
-fn built_in_origin() -> Origin {
-    Origin::of(&p0(), &Trig::new())
-}
-
 #[test]
-fn places_round_the_built_in_origin(rt: HostRuntime) {
-    let origin = built_in_origin();
+fn places_round_the_origin_of_the_sample_plant(rt: HostRuntime) -> Result<(), Fail> {
+    let origin = origin_at(rt.alloc(), 28870380000, 6910000000)?;
     for (lat, lon, want) in [
         (0, 0, place(0, 0)),
         (10000000, 0, place(1852000000000, 0)),
@@ -47,11 +45,12 @@ fn places_round_the_built_in_origin(rt: HostRuntime) {
             "at {lat}, {lon}"
         );
     }
+    Ok(())
 }
 
 #[test]
-fn keeps_within_the_frame(rt: HostRuntime) {
-    let origin = built_in_origin();
+fn keeps_within_the_frame(rt: HostRuntime) -> Result<(), Fail> {
+    let origin = origin_at(rt.alloc(), 28870380000, 6910000000)?;
     for (lat, lon, want) in [
         (50000000, 0, None),
         (-50000000, 0, None),
@@ -75,26 +74,28 @@ fn keeps_within_the_frame(rt: HostRuntime) {
     }
     assert_eq!(rt; origin.local(i64::MAX, i64::MIN), None);
     assert_eq!(rt; origin.local(28870380000, i64::MAX), None);
+    Ok(())
 }
 
 #[test]
-fn goes_the_short_way_across_the_date_line(rt: HostRuntime) {
-    let east_of_it = origin_at(0, 107999000000);
+fn goes_the_short_way_across_the_date_line(rt: HostRuntime) -> Result<(), Fail> {
+    let east_of_it = origin_at(rt.alloc(), 0, 107999000000)?;
     assert_eq!(rt; east_of_it.local(0, -107999000000), place(0, 370400000000));
     assert_eq!(rt;
         east_of_it.local(500000, 108000000000),
         place(92600000000, 185200000000)
     );
     assert_eq!(rt; east_of_it.local(0, -108000000000), place(0, 185200000000));
-    let south_west = origin_at(-34000000000, -107999990000);
+    let south_west = origin_at(rt.alloc(), -34000000000, -107999990000)?;
     assert_eq!(rt;
         south_west.local(-34000000123, 107999990001),
         place(-22779600, -2035639186)
     );
+    Ok(())
 }
 
 #[test]
-fn takes_the_cosine_of_whole_hundredths_of_a_degree(rt: HostRuntime) {
+fn takes_the_cosine_of_whole_hundredths_of_a_degree(rt: HostRuntime) -> Result<(), Fail> {
     for (lat0, lon0, lat, lon, want) in [
         (
             53400000000,
@@ -135,12 +136,11 @@ fn takes_the_cosine_of_whole_hundredths_of_a_degree(rt: HostRuntime) {
             place(185200, -1852002222400),
         ),
     ] {
-        assert!(rt; lat0 >= -53400000000 && lat0 <= 53400000000);
-        assert!(rt; lon0 >= -108000000000 && lon0 <= 108000000000);
         assert_eq!(rt;
-            origin_at(lat0, lon0).local(lat, lon),
+            origin_at(rt.alloc(), lat0, lon0)?.local(lat, lon),
             want,
             "at {lat}, {lon} from {lat0}, {lon0}"
         );
     }
+    Ok(())
 }

@@ -1,7 +1,7 @@
 ghost use Rattle.std.specs.Prelude.{[], length, map, ◌<◌, ◌≡◌, ◌≤◌};
 ghost use Rattle.std.specs.List.{list_all};
 ghost use Rattle.toml.specs.View.{view};
-ghost use Rattle.dp_plant.specs.{Gives, in_section, seen};
+ghost use Rattle.dp_plant.specs.{Gives, has_case, in_section, seen};
 ghost use Rattle.dp_plant.specs.PlantFile as File;
 
 use crate::keys::{count_at, key_of, rows_at, section_of, tables_at, whole_key, wholes_at};
@@ -106,7 +106,7 @@ fn lost_of(
 }
 
 fn has_case(cases: &[RawCase], mask: u8) -> bool
-    ensures { result ≡ File.has_case cases.now mask }
+    ensures { result ≡ has_case cases.now mask }
 {
     cases.iter().any(|case| case.lost == mask)
 }
@@ -114,12 +114,12 @@ fn has_case(cases: &[RawCase], mask: u8) -> bool
 /// There is a case for no group lost, and for each single one.
 fn are_there(cases: &[RawCase], groups: u8) -> bool
     requires { groups ≤ 8 }
-    ensures { result ≡ list_all (File.has_case cases.now) (File.single_masks groups) }
+    ensures { result ≡ list_all (has_case cases.now) (File.single_masks groups) }
 {
     let masks = &SINGLE_MASKS[..usize::from(groups) + 1];
     masks.iter().all(
         |mask| -> bool
-            ensures { result ≡ File.has_case cases.entry.now mask.now }
+            ensures { result ≡ has_case cases.entry.now mask.now }
         { has_case(cases, *mask) },
     )
 }

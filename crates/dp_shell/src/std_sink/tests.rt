@@ -1,10 +1,12 @@
 use super::*;
+use std::cell::Cell;
 use std::fmt::Display;
 
-/// An output that takes at most so many bytes at once, or fails.
+/// An output that takes at most so many bytes at once, or fails. Its first write is interrupted.
 #[derive(Drop)]
 struct Narrow {
     most: Option<usize>,
+    is_new: Cell<bool>,
 }
 
 impl Print for Narrow {
@@ -21,6 +23,9 @@ impl Print for Narrow {
     }
 
     fn write_some(&self, bytes: &[u8]) -> io::Result<usize> {
+        if self.is_new.replace(false) {
+            return Err(io::Error::from(io::ErrorKind::Interrupted));
+        }
         match self.most {
             Some(most) => Ok(bytes.len().min(most)),
             None => Err(io::Error::from(io::ErrorKind::Other)),
@@ -37,7 +42,10 @@ fn a_partial_write_is_answered_as_it_is(rt: HostRuntime) {
         (Some(0), b"", Ok(0), 0),
         (None, b"abc", Err(Trouble::Failed), 1),
     ] {
-        let narrow = Narrow { most };
+        let narrow = Narrow {
+            most,
+            is_new: Cell::new(true),
+        };
         let mut sink = StdSink::new(&narrow);
         assert_eq!(rt; sink.write(piece), count);
         assert_eq!(rt; sink.faults, faults);

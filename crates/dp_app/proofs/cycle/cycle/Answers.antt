@@ -3,7 +3,9 @@ use Rattle.dp_plant.specs.declared.plant.Plant.{Plant}
 use Rattle.dp_core.specs.declared.event.Event.{Event}
 use Rattle.dp_core.specs.declared.event.Event.TheVariants.{Wire}
 use Rattle.dp_core.specs.History.{history}
+use Rattle.dp_core.specs.CycleAlarms.{cycle_alarms}
 use Rattle.dp_core.specs.Mode.{mode}
+use Rattle.dp_report.specs.Agreement.{agreed}
 use Rattle.dp_core.specs.Represents.{Represents}
 use Rattle.dp_report.specs.Block.{block_text}
 use Rattle.dp_script.specs.TimedActs.{acts_at}
@@ -33,6 +35,10 @@ returns-clause-block c =
     let modes : c.modes.result ≡ mode 0 (history p all) ∷ mode 1 (history p all) ∷ mode 2 (history p all) ∷ [] =
     c.modes.ensures all voted_all
     ∙ ap (λ (q : Plant). mode 0 (history q all) ∷ mode 1 (history q all) ∷ mode 2 (history q all) ∷ []) c.vote_all-ballots.ensures.plant in
+    let told : c.alarms.result ≡ cycle_alarms 0 (history p all) ∷ cycle_alarms 1 (history p all) ∷ cycle_alarms 2 (history p all) ∷ [] =
+    c.alarms.ensures all voted_all
+    ∙ ap (λ (q : Plant). cycle_alarms 0 (history q all) ∷ cycle_alarms 1 (history q all) ∷ cycle_alarms 2 (history q all) ∷ []) c.vote_all-ballots.ensures.plant in
     c.write_block.ensures
-    ∙ ap block_text (block_is (voters p) f.cycle (history p all) c.modes.result _ _ modes (c.vote_all-ballots.ensures.ballots acted done) (c.held_all.ensures.held all voted_all))
+    ∙ ap block_text (block_is (voters p) f.cycle (history p all) c.modes.result _ _ c.agree.result modes
+    (c.vote_all-ballots.ensures.ballots acted done) (c.held_all.ensures.held all voted_all) (c.agree.ensures ∙ ap agreed told))
     ∙ ap (λ (l : List Event). block_text (block_of p f.cycle l)) (cycled_is p s f es)

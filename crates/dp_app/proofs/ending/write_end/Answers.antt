@@ -1,6 +1,6 @@
 use Rattle.std.proofs.Common.{inr}
 use Rattle.dp_shell.proofs.Taken.{appends_then, cut_after}
-use Rattle.dp_app.specs.Outcome.{end_line}
+use Rattle.dp_app.specs.Endings.{end_line}
 use Rattle.dp_app.proofs.ending.write_end.Goals as goal
 
 pub returns-in-Ok-clause-written : goal.returns-in-Ok-clause-written

@@ -23,4 +23,5 @@ returns-in_default g c =
       open_still = c.feed.ensures.open;
       settings = c.feed.ensures.settings;
       playing = c.play_feed.ensures.playing;
+      plant = c.play_feed.ensures.plant;
     }

@@ -17,6 +17,7 @@ invariant-loop-fault g l =
       reads : (text : List ℕ) → Represents l.fn.lines text → RepresentsWhole l.lines text;
       same : l.lines.progress.settings ≡ x;
       plays : IsPlaying l.player;
+      same_plant : l.player.plant ≡ l.fn.player.plant;
       cycle : (l.lines.phase ≡ Done → ⊥) → l.lines.progress.kept.cycle ≡ l.player.count;
       shown : (text : List ℕ) → Represents l.fn.lines text → Shows l.fn.player l.player (taken l.fn.out) (taken l.out)
           (frames_so_far x (ended_lines text)) (frames_given x text l.lines.phase);

@@ -21,6 +21,7 @@ loop-byte-init g c =
       sound = λ before r sound. ap (λ (l : List ℕ). first_refusal x (ended_lines l)) (append-nil before) ∙ sound;
       cycle = c.requires.next;
       plays = c.requires.playing;
+      same_plant = refl;
       shown = λ before r sound. shows_as c.args.player.now c.args.player.now _ _
           (frames_so_far x (ended_lines before)) (frames_so_far x (ended_lines before)) (frames_so_far x (ended_lines (before ++ [])))
           (ap (λ (l : List ℕ). frames_so_far x (ended_lines l)) (sym (append-nil before)))
@@ -119,6 +120,7 @@ loop-byte-preserved g c =
           ap (λ (l : List ℕ). first_refusal x (ended_lines l)) (sym (joined before)) ∙ no_refusal _ (sym answered ∙ none);
       cycle = c.in_ok-fault.ensures.next;
       plays = c.play_byte.ensures.playing;
+      same_plant = c.play_byte.ensures.plant ∙ inv.same_plant;
       shown = λ before r sound.
           let t = before ++ take i xs in
           let a = answer_to x t b in

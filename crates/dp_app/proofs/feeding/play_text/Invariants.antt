@@ -20,6 +20,7 @@ invariant-loop-byte g l =
           → first_refusal x (ended_lines (before ++ take l.byte-index l.text)) ≡ None;
       cycle : l.lines.progress.kept.cycle ≡ l.player.count;
       plays : IsPlaying l.player;
+      same_plant : l.player.plant ≡ l.fn.player.plant;
       shown : (before : List ℕ) → Represents l.fn.lines before → first_refusal x (ended_lines before) ≡ None
           → Shows l.fn.player l.player (taken l.fn.out) (taken l.out)
           (frames_so_far x (ended_lines before)) (frames_so_far x (ended_lines (before ++ take l.byte-index l.text)));

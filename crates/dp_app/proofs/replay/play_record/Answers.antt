@@ -9,14 +9,14 @@ use Rattle.dp_app.specs.Outcome.{play_of}
 use Rattle.dp_app.specs.Playing.{Shows, StopsShowing}
 use Rattle.dp_app.specs.Prefixes.{prefix_read}
 use Rattle.dp_app.proofs.ReaderSteps.{no_lines, no_refusal, none_there}
-use Rattle.dp_app.proofs.SoundPlants.{origin_within, some_cycle}
+use Rattle.dp_app.proofs.PlantFacts.{few_groups, origin_within, some_cycle}
 use Rattle.dp_app.proofs.Records.{cut_frames, early, long_record, of_fault, ok_of_record, prefix_of_play, whole_fault, whole_frames}
-use Rattle.dp_app.proofs.Results.{on_err, on_ok}
+use Rattle.dp_app.proofs.Results.{any_err, on_err, on_ok}
 use Rattle.dp_app.proofs.Showing.{shows_as, shows_then, stops_more, stops_then}
 use Rattle.dp_app.proofs.replay.play_record.Goals as goal
 
 pub play_text-requires-clause-cycle : goal.play_text-requires-clause-cycle
-play_text-requires-clause-cycle g c = rw c.new-lines.ensures.settings (some_cycle c.args.player.now.plant c.requires.sound)
+play_text-requires-clause-cycle g c = rw c.new-lines.ensures.settings (some_cycle c.args.player.now.plant)
 
 pub play_text-requires-clause-playing : goal.play_text-requires-clause-playing
 play_text-requires-clause-playing g c = ([], c.requires.played)
@@ -29,7 +29,7 @@ returns-in_err-fault-clause-err g c =
     let x = c.args.player.now in
     let s = settings_of x.plant in
     let f = prefix_read c.args.file.now in
-    let some = (some_cycle c.args.player.now.plant c.requires.sound) in
+    let some = (some_cycle c.args.player.now.plant) in
     let old = g.K.Sink.taken c.args.out.now in
     let new = g.K.Sink.taken c.play_text.new.out in
     let cut : StopsShowing x old new (frames_so_far s (ended_lines [])) (frames_so_far s (ended_lines f.text)) =
@@ -38,11 +38,11 @@ returns-in_err-fault-clause-err g c =
     let frames = (play_of x.plant x.script f).frames in
     let more = stops_more x x old new (frames_so_far s (ended_lines [])) (frames_so_far s (ended_lines f.text)) rest.0 frames rest.1 cut in
     let stopped : StopsShowing x old new [] frames = subst (λ (l : List Frame). StopsShowing x old new l frames) (nothing_over s) more in
-    search (rules, stopped)
+    any_err _ _ stopped
 
 pub returns-then-is_some-clause-fault : goal.returns-then-is_some-clause-fault
 returns-then-is_some-clause-fault g c =
-    (early c.args.player.now.plant c.args.player.now.script (prefix_read c.args.file.now) (some_cycle c.args.player.now.plant c.requires.sound) c.in_ok-fault.fault
+    (early c.args.player.now.plant c.args.player.now.script (prefix_read c.args.file.now) (some_cycle c.args.player.now.plant) c.in_ok-fault.fault
     (rw c.deref.ensures.value at (rw c.new-lines.ensures.settings at (c.in_ok-fault.ensures.fault [] c.new-lines.ensures.represents (no_lines _))))
     (sym c.if-is_some.ensures)).fault_too
 
@@ -58,7 +58,7 @@ returns-then-is_some-clause-ok g c =
     let y = c.play_text.new.player in
     let old = g.K.Sink.taken c.args.out.now in
     let new = g.K.Sink.taken c.play_text.new.out in
-    let whole = (early x.plant x.script f (some_cycle c.args.player.now.plant c.requires.sound) c.in_ok-fault.fault
+    let whole = (early x.plant x.script f (some_cycle c.args.player.now.plant) c.in_ok-fault.fault
     (rw c.deref.ensures.value at (rw c.new-lines.ensures.settings at (c.in_ok-fault.ensures.fault [] c.new-lines.ensures.represents (no_lines _))))
     (sym c.if-is_some.ensures)).frames_too in
     let shown : Shows x y old new (frames_so_far s (ended_lines [])) (frames_so_far s (ended_lines f.text)) =
@@ -70,7 +70,7 @@ pub returns-then-file-clause-fault : goal.returns-then-file-clause-fault
 returns-then-file-clause-fault g c =
     let quiet = none_there c.in_ok-fault.fault (sym c.if-is_some.ensures) in
     let sound = no_refusal _ (sym (rw c.deref.ensures.value at (rw c.new-lines.ensures.settings at (c.in_ok-fault.ensures.fault [] c.new-lines.ensures.represents (no_lines _)))) ∙ quiet) in
-    long_record c.args.player.now.plant c.args.player.now.script (prefix_read c.args.file.now) (some_cycle c.args.player.now.plant c.requires.sound) c.if-file.true sound
+    long_record c.args.player.now.plant c.args.player.now.script (prefix_read c.args.file.now) (some_cycle c.args.player.now.plant) c.if-file.true sound
 
 pub returns-then-file-clause-ok : goal.returns-then-file-clause-ok
 returns-then-file-clause-ok g c =
@@ -80,14 +80,14 @@ returns-then-file-clause-ok g c =
     let y = c.play_text.new.player in
     let old = g.K.Sink.taken c.args.out.now in
     let new = g.K.Sink.taken c.play_text.new.out in
-    let whole = cut_frames x.plant x.script f (some_cycle c.args.player.now.plant c.requires.sound) c.if-file.true in
+    let whole = cut_frames x.plant x.script f (some_cycle c.args.player.now.plant) c.if-file.true in
     let shown : Shows x y old new (frames_so_far s (ended_lines [])) (frames_so_far s (ended_lines f.text)) =
     rw c.deref.ensures.value at (rw c.new-lines.ensures.settings at (c.in_ok-fault.ensures.ok [] c.new-lines.ensures.represents (no_lines _))) in
     let frames = (play_of x.plant x.script f).frames in
     subst (λ (l : List Frame). Shows x y old new l frames) (nothing_over s) (shows_as x y old new _ _ frames whole shown)
 
 pub play_end-requires-clause-cycle : goal.play_end-requires-clause-cycle
-play_end-requires-clause-cycle g c = rw (c.play_text.ensures.settings ∙ c.new-lines.ensures.settings) (some_cycle c.args.player.now.plant c.requires.sound)
+play_end-requires-clause-cycle g c = rw (c.play_text.ensures.settings ∙ c.new-lines.ensures.settings) (some_cycle c.args.player.now.plant)
 
 pub play_end-requires-clause-next : goal.play_end-requires-clause-next
 play_end-requires-clause-next g c = c.in_ok-fault.ensures.next (none_there c.in_ok-fault.fault (sym c.if-is_some.ensures))
@@ -97,7 +97,7 @@ returns-clause-fault g c =
     let text = c.args.file.now.text.items in
     let quiet = none_there c.in_ok-fault.fault (sym c.if-is_some.ensures) in
     let fed = (rw c.deref.ensures.value at (c.in_ok-fault.ensures.represents [] c.new-lines.ensures.represents)) quiet in
-    let whole = whole_fault c.args.player.now.plant c.args.player.now.script (prefix_read c.args.file.now) (some_cycle c.args.player.now.plant c.requires.sound) c.if-file.false in
+    let whole = whole_fault c.args.player.now.plant c.args.player.now.script (prefix_read c.args.file.now) (some_cycle c.args.player.now.plant) c.if-file.false in
     subst (λ (o : Option Fault). IfOk c.play_end.result (λ fault. fault ≡ o)) whole
     (rw (c.play_text.ensures.settings ∙ c.new-lines.ensures.settings) at (c.play_end.ensures.fault text fed))
 
@@ -121,7 +121,7 @@ returns-clause-ok g c =
     let frames = (play_of x.plant x.script f).frames in
     let quiet = none_there c.in_ok-fault.fault (sym c.if-is_some.ensures) in
     let fed = (rw c.deref.ensures.value at (c.in_ok-fault.ensures.represents [] c.new-lines.ensures.represents)) quiet in
-    let whole = whole_frames x.plant x.script f (some_cycle c.args.player.now.plant c.requires.sound) c.if-file.false in
+    let whole = whole_frames x.plant x.script f (some_cycle c.args.player.now.plant) c.if-file.false in
     let first : Shows x y old mid (frames_so_far s (ended_lines [])) so_far =
     rw c.deref.ensures.value at (rw c.new-lines.ensures.settings at (c.in_ok-fault.ensures.ok [] c.new-lines.ensures.represents (no_lines _))) in
     let last : OnOk c.play_end.result (Shows y z mid new so_far (record_frames s (all_lines f.text))) =
@@ -144,7 +144,7 @@ returns-clause-err g c =
     let frames = (play_of x.plant x.script f).frames in
     let quiet = none_there c.in_ok-fault.fault (sym c.if-is_some.ensures) in
     let fed = (rw c.deref.ensures.value at (c.in_ok-fault.ensures.represents [] c.new-lines.ensures.represents)) quiet in
-    let whole = whole_frames x.plant x.script f (some_cycle c.args.player.now.plant c.requires.sound) c.if-file.false in
+    let whole = whole_frames x.plant x.script f (some_cycle c.args.player.now.plant) c.if-file.false in
     let first : Shows x y old mid (frames_so_far s (ended_lines [])) so_far =
     rw c.deref.ensures.value at (rw c.new-lines.ensures.settings at (c.in_ok-fault.ensures.ok [] c.new-lines.ensures.represents (no_lines _))) in
     let last : OnErr c.play_end.result (StopsShowing y mid new so_far (record_frames s (all_lines f.text))) =
@@ -155,4 +155,10 @@ returns-clause-err g c =
     last
 
 pub new-lines-requires-clause-origin : goal.new-lines-requires-clause-origin
-new-lines-requires-clause-origin g c = origin_within c.args.player.now.plant c.requires.sound
+new-lines-requires-clause-origin g c = origin_within c.args.player.now.plant
+
+pub new-lines-requires-clause-groups : goal.new-lines-requires-clause-groups
+new-lines-requires-clause-groups g c = few_groups c.args.player.now.plant
+
+pub new-lines-requires-clause-cycle : goal.new-lines-requires-clause-cycle
+new-lines-requires-clause-cycle g c = some_cycle c.args.player.now.plant

@@ -9,4 +9,7 @@ named-requires c = subst (λ (o : Option (List ℕ)). IfSome o (λ n. length n �
 pub first_fault-requires : goal.first_fault-requires
 first_fault-requires c =
     let facts = in_range c.args.g.now c.args.y.now c.args.c.now (sym c.in-None.ensures) in
-    record { observer = facts.observer; law = facts.law; numbers = facts.numbers; parts = facts.parts }
+    record { observer = facts.gains.observer; law = facts.gains.law; numbers = facts.numbers; parts = facts.parts }
+
+pub returns-in-None-first_fault-clause-within : goal.returns-in-None-first_fault-clause-within
+returns-in-None-first_fault-clause-within c = (in_range c.args.g.now c.args.y.now c.args.c.now (sym c.in-None.ensures)).gains

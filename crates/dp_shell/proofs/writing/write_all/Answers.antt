@@ -1,5 +1,5 @@
 use Rattle.std.proofs.Common.{arith}
-use Rattle.dp_shell.proofs.Taken.{appends_more, cut_here}
+use Rattle.dp_shell.proofs.Taken.{appends_more}
 use Rattle.dp_shell.proofs.writing.write_all.Goals as goal
 
 pub loop-done-preserved : goal.loop-done-preserved

@@ -53,6 +53,7 @@ loop-k-preserved g c =
           (append_assoc fs (given (Closed f k)) (e ∷ []) ∙ ap (λ (l : List Frame). fs ++ l) more)
           (shows_then x y z old mid new fs before (before ++ e ∷ []) (i.shown fs) (c.in_ok-play_frame-2.ensures.ok before));
       plays = c.play_frame-in-loop-k.ensures.playing;
+      same_plant = c.play_frame-in-loop-k.ensures.plant ∙ i.same_plant;
       many = omega (arith, c.play_frame-in-loop-k.ensures.count, i.many);
       no_less = omega (arith, i.no_less, c.in_ok-play_frame-2.ensures.cause.later);
     }
@@ -64,3 +65,7 @@ returns-clause-count g c =
     let end : c.loop-k.k ≡ c.args.empty = omega arith in
     counts x c.loop-k.self _ _ (given (Closed f c.loop-k.k)) c.requires.playing c.loop-k.invariant.shown
     ∙ ap (λ (n : ℕ). x.count + length (given (Closed f n))) end
+
+pub play_frame-requires-in-loop-k-clause-within : goal.play_frame-requires-in-loop-k-clause-within
+play_frame-requires-in-loop-k-clause-within g c =
+    c.empty_frame.ensures.range (omega (arith, c.requires.few, c.loop-k.auto.k-end)) c.loop-k.self.plant.groups

@@ -13,6 +13,7 @@ invariant-loop-k g l =
     record {
       shown : (fs : List Frame) → Shows l.fn.self l.self (taken l.fn.out) (taken l.out) fs (fs ++ given (Closed l.frame l.k));
       plays : IsPlaying l.self;
+      same_plant : l.self.plant ≡ l.fn.self.plant;
       many : l.self.count ≡ l.frame.cycle + 1 + l.k;
       no_less : faults l.fn.out ≤ faults l.out;
     }

@@ -11,7 +11,7 @@ invariant_of-result c =
     let none : length c.in-Ok.waits.items ≡ 0 = ap (λ (b : Buffer Frame). length b.items) c.in-Ok.ensures ∙ omega arith in
     let count : c.in_ok-machine.machine.state.count ≡ 0 = ap (λ (m : MachineValue). m.state.count) c.in_ok-machine.ensures ∙ first-count c.args.plant.now in
     record {
-      waiting = IsWaiting-clear c.in-Ok.waits 0 c.in-Ok.ensures;
+      waiting = IsWaiting-clear c.in_ok-machine.machine.plant.groups c.in-Ok.waits 0 c.in-Ok.ensures;
       live = λ is. omega (arith, none, count);
       bounded = omega arith;
     }

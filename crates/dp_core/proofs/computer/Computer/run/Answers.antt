@@ -5,7 +5,7 @@ use Rattle.dp_core.specs.ComputerState.{after_run, run_answer}
 use Rattle.dp_core.specs.Inside.{computer_state}
 use Rattle.dp_core.proofs.Cycles.{step-is_cycle}
 use Rattle.dp_core.proofs.Halts.{halt-answer, halt-is, pop-first}
-use Rattle.dp_core.proofs.Waits.{IsWaiting-pop, length-pop, some_wait}
+use Rattle.dp_core.proofs.Waits.{IsWaiting-pop, IsWaiting-same, length-pop, some_wait}
 use Rattle.dp_core.proofs.computer.Computer.run.Goals as goal
 
 pub invariant_of-self-in-Ok : goal.invariant_of-self-in-Ok
@@ -15,7 +15,8 @@ invariant_of-self-in-Ok c =
     let m = c.self.inside.machine in
     let cycle = step-is_cycle m.plant m.plant.setpoint m.state c.in-Some.f _ c.in-Ok.ensures.issued in
     record {
-      waiting = IsWaiting-pop c.self.inside.waits c.pop_front.new.self c.self.inside.next c.self.invariant.waiting (some_wait c.self.inside.waits c.in-Some.f prefix) c.pop_front.ensures.items;
+      waiting = IsWaiting-same m.plant c.step.new.self.plant c.pop_front.new.self c.self.inside.next c.step.ensures.plant
+          (IsWaiting-pop m.plant.groups c.self.inside.waits c.pop_front.new.self c.self.inside.next c.self.invariant.waiting (some_wait c.self.inside.waits c.in-Some.f prefix) c.pop_front.ensures.items);
       live = λ is. omega (arith, c.self.invariant.live is, cycle.count, popped);
       bounded = c.self.invariant.bounded;
     }

@@ -1,9 +1,9 @@
-use Rattle.std.proofs.Common.{◌∙◌, ap, refl, arith}
-use Rattle.dp_core.specs.ComputerState.{after_run, run_answer}
+use Rattle.std.proofs.Common.{◌≡◌, ◌∙◌, ap, refl, arith}
+use Rattle.dp_core.specs.ComputerState.{ComputerState, after_run, run_answer}
 use Rattle.dp_core.specs.WorldState.{WorldState, after}
-use Rattle.dp_core.specs.WorldView.{world_of}
+use Rattle.dp_core.specs.WorldView.{IsInStep, world_of}
 use Rattle.dp_core.specs.declared.event.Event.TheVariants.{Run}
-use Rattle.dp_core.proofs.InStep.{one-in_step, run-in_step}
+use Rattle.dp_core.proofs.InStep.{one-keeps, run-in_step, run-plant}
 use Rattle.dp_core.proofs.Lists.{changed-read, read-at, read-is, set-length}
 use Rattle.dp_core.proofs.Worlds.{run-answer, went-on}
 use Rattle.dp_core.proofs.world.World.run.Goals as goal
@@ -19,7 +19,8 @@ invariant_of-self c =
     record {
       three = set-length i.computers c.args.c c.run.new.self ∙ was.three;
       voters = was.voters;
-      in_step = one-in_step i.computers i.cycles_begun c.args.c x c.run.new.self was.in_step at (λ s. rw (c.run.ensures.new, ← c.index-self-c.is) (run-in_step i.cycles_begun x s));
+      in_step = one-keeps (IsInStep i.cycles_begun) i.computers c.args.c x c.run.new.self was.in_step at (λ s. rw (c.run.ensures.new, ← c.index-self-c.is) (run-in_step i.cycles_begun x s));
+      of_plant = one-keeps (λ (z : ComputerState). z.plant ≡ i.plant) i.computers c.args.c x c.run.new.self was.of_plant at (λ s. rw (c.run.ensures.new, ← c.index-self-c.is) (run-plant x ∙ s));
       bounded = was.bounded;
     }
 

@@ -1,9 +1,9 @@
-use Rattle.std.proofs.Common.{◌∙◌, ap, arith, refl}
-use Rattle.dp_core.specs.ComputerState.{after_skew, skew_answer}
+use Rattle.std.proofs.Common.{◌≡◌, ◌∙◌, ap, arith, refl}
+use Rattle.dp_core.specs.ComputerState.{ComputerState, after_skew, skew_answer}
 use Rattle.dp_core.specs.WorldState.{WorldState, after}
-use Rattle.dp_core.specs.WorldView.{world_of}
+use Rattle.dp_core.specs.WorldView.{IsInStep, world_of}
 use Rattle.dp_core.specs.declared.event.Event.TheVariants.{Skew}
-use Rattle.dp_core.proofs.InStep.{one-in_step, skew-in_step}
+use Rattle.dp_core.proofs.InStep.{one-keeps, skew-in_step, skew-plant}
 use Rattle.dp_core.proofs.Lists.{changed-read, read-at, read-is, set-length}
 use Rattle.dp_core.proofs.Worlds.{skew-answer, went-on}
 use Rattle.dp_core.proofs.world.World.skew.Goals as goal
@@ -19,7 +19,8 @@ invariant_of-self c =
     record {
       three = set-length i.computers c.args.c c.skew.new.self ∙ was.three;
       voters = was.voters;
-      in_step = one-in_step i.computers i.cycles_begun c.args.c x c.skew.new.self was.in_step at (λ s. rw (c.skew.ensures.new, ← c.index-self-c.is) (skew-in_step i.cycles_begun x c.args.at s));
+      in_step = one-keeps (IsInStep i.cycles_begun) i.computers c.args.c x c.skew.new.self was.in_step at (λ s. rw (c.skew.ensures.new, ← c.index-self-c.is) (skew-in_step i.cycles_begun x c.args.at s));
+      of_plant = one-keeps (λ (z : ComputerState). z.plant ≡ i.plant) i.computers c.args.c x c.skew.new.self was.of_plant at (λ s. rw (c.skew.ensures.new, ← c.index-self-c.is) (skew-plant x c.args.at ∙ s));
       bounded = was.bounded;
     }
 

@@ -1,9 +1,9 @@
-use Rattle.std.proofs.Common.{◌∙◌, ap, arith, refl}
-use Rattle.dp_core.specs.ComputerState.{after_stop}
+use Rattle.std.proofs.Common.{◌≡◌, ◌∙◌, ap, arith, refl}
+use Rattle.dp_core.specs.ComputerState.{ComputerState, after_stop}
 use Rattle.dp_core.specs.WorldState.{after}
-use Rattle.dp_core.specs.WorldView.{world_of}
+use Rattle.dp_core.specs.WorldView.{IsInStep, world_of}
 use Rattle.dp_core.specs.declared.event.Event.TheVariants.{Stop}
-use Rattle.dp_core.proofs.InStep.{one-in_step, stop-in_step}
+use Rattle.dp_core.proofs.InStep.{one-keeps, stop-in_step, stop-plant}
 use Rattle.dp_core.proofs.Lists.{changed-read, read-at, set-length}
 use Rattle.dp_core.proofs.Worlds.{went-on}
 use Rattle.dp_core.proofs.world.World.stop.Goals as goal
@@ -19,7 +19,8 @@ invariant_of-self c =
     record {
       three = set-length i.computers c.args.c c.stop.new.self ∙ was.three;
       voters = was.voters;
-      in_step = one-in_step i.computers i.cycles_begun c.args.c x c.stop.new.self was.in_step at (λ s. rw (c.stop.ensures, ← c.index-self-c.is) (stop-in_step i.cycles_begun x s));
+      in_step = one-keeps (IsInStep i.cycles_begun) i.computers c.args.c x c.stop.new.self was.in_step at (λ s. rw (c.stop.ensures, ← c.index-self-c.is) (stop-in_step i.cycles_begun x s));
+      of_plant = one-keeps (λ (z : ComputerState). z.plant ≡ i.plant) i.computers c.args.c x c.stop.new.self was.of_plant at (λ s. rw (c.stop.ensures, ← c.index-self-c.is) (stop-plant x ∙ s));
       bounded = was.bounded;
     }
 

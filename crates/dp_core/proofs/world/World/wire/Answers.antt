@@ -2,8 +2,9 @@ use Rattle.std.proofs.Common.{◌∙◌, ◌+◌, ◌≡◌, List, Some, ap, ari
 use Rattle.std.specs.Prelude.{slice_get}
 use Rattle.dp_core.specs.ComputerState.{ComputerState, after_wire}
 use Rattle.dp_core.specs.WorldView.{IsInStep}
+use Rattle.dp_plant.specs.declared.plant.Plant.{Plant}
 use Rattle.dp_voter.specs.VoterState.{begun}
-use Rattle.dp_core.proofs.InStep.{all-in_step}
+use Rattle.dp_core.proofs.InStep.{all-in_step, all-of_plant}
 use Rattle.dp_core.proofs.Lists.{map-length}
 use Rattle.dp_core.specs.ComputerState.{wire_answer}
 use Rattle.dp_core.specs.WorldState.{WorldState, after}
@@ -18,11 +19,12 @@ invariant_of-self c =
     let was = c.self.invariant in
     let view = c.self.view_is in
     let cycle : c.args.f.now.cycle ≡ i.cycles_begun = c.requires.next ∙ sym (ap (λ (w : WorldState). w.cycles_begun) view) in
-    let less = c.requires.within.cycle in
+    let less = c.requires.within.within.cycle in
     record {
       three = ap length c.wire_all-answers.ensures.new ∙ (map-length i.computers (λ x. after_wire x c.args.f.now) ∙ was.three);
       voters = ap length c.begin_all.ensures ∙ (map-length i.voters.items (λ v. begun v c.args.f.now.cycle) ∙ was.voters);
       in_step = subst (λ (xs : List ComputerState). (k : ℕ) (z : ComputerState) → slice_get xs k ≡ Some z → IsInStep (i.cycles_begun + 1) z) (sym c.wire_all-answers.ensures.new) (all-in_step i.computers i.cycles_begun c.args.f.now was.in_step);
+      of_plant = subst (λ (xs : List ComputerState). (k : ℕ) (z : ComputerState) → slice_get xs k ≡ Some z → z.plant ≡ i.plant) (sym c.wire_all-answers.ensures.new) (all-of_plant i.computers i.plant c.args.f.now was.of_plant);
       bounded = omega arith;
     }
 
@@ -36,3 +38,8 @@ returns-clause-represents c = λ es r.
 pub returns-clause-answers : goal.returns-clause-answers
 returns-clause-answers c = λ es r.
     c.wire_all-answers.ensures.answers ∙ (ap (λ (w : WorldState). map wire_answer w.computers) c.self.view_is ∙ wire-answers es c.args.self.now r)
+
+pub wire_all-answers-requires-clause-within : goal.wire_all-answers-requires-clause-within
+wire_all-answers-requires-clause-within c = λ k x at.
+    let groups = ap (λ (w : WorldState). w.plant.groups) c.self.view_is in
+    rw (ap (λ (p : Plant). p.groups) (c.self.invariant.of_plant k x at), groups) c.requires.within

@@ -11,7 +11,7 @@ returns-clause-represents c = λ t s.
     let k = was.prefix going in
     let cases = line-cases (unfinished_line t) c.self.inside.prefix.items c.whole.result.now c.self.inside.prefix_len k.prefix k.prefix_len
     (λ le. c.whole.ensures.short le ∙ ap stripped c.as_slice.ensures.value) (λ lt. c.whole.ensures.long lt ∙ c.as_slice.ensures.value) in
-    rw c.clear.ensures (represents-newline _ c.line-answer.new.self t c.whole.result.now c.line-answer.ensures.settings going was cases (c.line-answer.ensures.represents (ended_lines t) was.lines))
+    rw c.clear.ensures (represents-newline _ c.line-ended.new.self t c.whole.result.now c.line-ended.ensures.settings going was cases (c.line-ended.ensures.represents (ended_lines t) was.lines))
 
 pub returns-clause-answer : goal.returns-clause-answer
 returns-clause-answer c = λ t s.
@@ -20,4 +20,4 @@ returns-clause-answer c = λ t s.
     let k = was.prefix going in
     let cases = line-cases (unfinished_line t) c.self.inside.prefix.items c.whole.result.now c.self.inside.prefix_len k.prefix k.prefix_len
     (λ le. c.whole.ensures.short le ∙ ap stripped c.as_slice.ensures.value) (λ lt. c.whole.ensures.long lt ∙ c.as_slice.ensures.value) in
-    c.line-answer.ensures.answer (ended_lines t) was.lines ∙ rw (← c.self.view_is) (answer-newline _ t c.whole.result.now (sym was.lines.refusal ∙ going) cases)
+    c.line-ended.ensures.answer (ended_lines t) was.lines ∙ rw (← c.self.view_is) (answer-newline _ t c.whole.result.now (sym was.lines.refusal ∙ going) cases)

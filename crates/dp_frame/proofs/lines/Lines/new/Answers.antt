@@ -7,7 +7,7 @@ use Rattle.dp_frame.proofs.lines.Lines.new.Goals as goal
 pub returns-clause-represents : goal.returns-clause-represents
 returns-clause-represents c = record {
   bytes = refl;
-  lines = rw ended-none (represents-first _ c.empty_frame.result c.empty_frame.ensures.value);
+  lines = rw ended-none (represents-first _ c.empty_frame-kept.result c.empty_frame-kept.result c.empty_frame-kept.ensures.value);
   prefix = λ _. record { prefix = rw (unfinished-none, c.new.ensures); prefix_len = rw unfinished-none };
 }
 
@@ -15,8 +15,8 @@ pub invariant_of-result : goal.invariant_of-result
 invariant_of-result c = record {
   progress = record {
     readable = record { step = c.requires.cycle; groups = c.requires.groups };
-    bounded = rw c.empty_frame.ensures.value (bounded-empty 0 0);
-    range = c.empty_frame.ensures.range (omega arith) c.args.plant.now.groups;
+    bounded = rw c.empty_frame-kept.ensures.value (bounded-empty 0 0);
+    range = c.empty_frame-kept.ensures.range (omega arith) c.args.plant.now.groups;
   };
   few = omega arith;
   fed = omega arith;

@@ -16,7 +16,7 @@ returns-in-Blank-clause-answer c = λ lines r.
 pub returns-in-Good-clause-represents : goal.returns-in-Good-clause-represents
 returns-in-Good-clause-represents c = λ lines r.
     let y = ready c.args.self.now lines c.args.line.now (Good c.in-Good.entry) c.requires.going c.in-Good.ensures.value r in
-    represents-good c.args.self.now lines c.args.line.now c.in-Good.entry c.enter.new.kept c.requires.going y
+    represents-good c.args.self.now lines c.args.line.now c.in-Good.entry c.enter.new.kept c.enter.new.over c.requires.going y
     (c.enter.ensures.kept (entries c.args.self.now.settings lines) y.keeps.kept (ready-follows c.args.self.now lines c.args.line.now c.in-Good.entry c.requires.sound.readable.step y))
 
 pub returns-in-Good-clause-answer : goal.returns-in-Good-clause-answer
@@ -33,7 +33,7 @@ returns-in-Faulty-clause-represents c = λ lines r.
 pub returns-in-Faulty-clause-answer : goal.returns-in-Faulty-clause-answer
 returns-in-Faulty-clause-answer c = λ lines r.
     let y = ready c.args.self.now lines c.args.line.now (Faulty c.in-Faulty.kind) c.requires.going c.in-Faulty.ensures.value r in
-    c.refuse.ensures.answer ∙ answer-refused c.args.self.now lines c.args.line.now (Faulty c.in-Faulty.kind) (refusal.Faulty (c.args.self.now.number + 1) c.in-Faulty.kind) y refl
+    rw c.refuse.ensures.result (answer-refused c.args.self.now lines c.args.line.now (Faulty c.in-Faulty.kind) (refusal.Faulty (c.args.self.now.number + 1) c.in-Faulty.kind) y refl)
 
 pub returns-in-TooMany-clause-represents : goal.returns-in-TooMany-clause-represents
 returns-in-TooMany-clause-represents c = λ lines r.
@@ -43,7 +43,7 @@ returns-in-TooMany-clause-represents c = λ lines r.
 pub returns-in-TooMany-clause-answer : goal.returns-in-TooMany-clause-answer
 returns-in-TooMany-clause-answer c = λ lines r.
     let y = ready c.args.self.now lines c.args.line.now (TooMany c.in-TooMany.cycle) c.requires.going c.in-TooMany.ensures.value r in
-    c.refuse-in-TooMany.ensures.answer ∙ answer-refused c.args.self.now lines c.args.line.now (TooMany c.in-TooMany.cycle) (refusal.TooMany (c.args.self.now.number + 1) c.in-TooMany.cycle) y refl
+    rw c.refuse-in-TooMany.ensures.result (answer-refused c.args.self.now lines c.args.line.now (TooMany c.in-TooMany.cycle) (refusal.TooMany (c.args.self.now.number + 1) c.in-TooMany.cycle) y refl)
 
 pub returns-in-Good-clause-range : goal.returns-in-Good-clause-range
 returns-in-Good-clause-range c = (c.enter.ensures.range c.args.self.now.settings.groups c.requires.sound.range c.in-Good.ensures.within).1
