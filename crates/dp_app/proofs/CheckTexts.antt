@@ -43,9 +43,9 @@ module _ (p : Plant) where
       let cs = p.cases.items in
       let f = case_text p.cert in
       let whole : text_so_far p n ++ flat_map f (drop n cs) ≡ codes "accepted\n" ++ flat_map f cs =
-          append_assoc (codes "accepted\n") (flat_map f (take n cs)) (flat_map f (drop n cs))
-          ∙ ap (λ (l : List ℕ). codes "accepted\n" ++ l) (sym (flat_map-append f (take n cs) (drop n cs)))
-          ∙ ap (λ (l : List RawCase). codes "accepted\n" ++ flat_map f l) (take-append-drop n cs) in
+      append_assoc (codes "accepted\n") (flat_map f (take n cs)) (flat_map f (drop n cs))
+      ∙ ap (λ (l : List ℕ). codes "accepted\n" ++ l) (sym (flat_map-append f (take n cs) (drop n cs)))
+      ∙ ap (λ (l : List RawCase). codes "accepted\n" ++ flat_map f l) (take-append-drop n cs) in
       subst (λ (l : List ℕ). AppendsCut a c l) whole (cut_before a c (text_so_far p n) (flat_map f (drop n cs)) cut)
 
   pub whole_check : (count : ℕ) → count ≡ length p.cases.items → cases_text p ++ end_line count ≡ check_text p

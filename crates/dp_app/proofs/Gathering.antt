@@ -116,8 +116,10 @@ module _ (files : Option Files) (name : List ℕ) (before mid now : List ℕ →
   pub later_failed : (p : PlantValue) (file : File) → IfSome files (λ told. IsPlantOf (text_named told name) p) → NoneFalls before mid
       → ReadFailed files mid now rest file → ReadFailed files before now (plant_file name ∷ rest) file
   later_failed p file plant rising failed =
-      inr (each_file files (λ told. IsPlantOf (text_named told name) p) (λ told. HasPassed told (plant_file name)) (λ told h. (p, h)) plant,
-      rose_later files before mid now rising rest file failed)
+      inr (
+        each_file files (λ told. IsPlantOf (text_named told name) p) (λ told. HasPassed told (plant_file name)) (λ told h. (p, h)) plant,
+        rose_later files before mid now rising rest file failed,
+      )
 
 module _ (apart apart_mid : List ℕ → Bool) (name : List ℕ) (before mid now : List ℕ → ℕ) (rest : List FileNamed) where
   pub plant_keeps : OthersStay apart name before now → OthersKeep apart (plant_file name ∷ rest) before now

@@ -76,14 +76,14 @@ unfolding shape_of lists_from
 same_lists {n} x y e =
     let p_is : x.p ≡ y.p = ap (λ (d : ListsData). record { at = d.p }) e in
     let of : List ℤ → Squares n → List (List (Squares n)) → List (List (Squares n)) → List (Squares n) → Sym n → Shape n =
-        λ span form vertex output spans p. record { p = p; span = span; form = form; vertex = vertex; output = output; spans = spans } in
+    λ span form vertex output spans p. record { p = p; span = span; form = form; vertex = vertex; output = output; spans = spans } in
     let same : shape_of x ≡ shape_of y =
-        ap (λ (s : List ℤ). of s x.form x.vertex x.output x.spans x.p) (ap (λ (d : ListsData). d.span) e)
-        ∙ ap (λ (s : Squares n). of y.span s x.vertex x.output x.spans x.p) (same_squares x.form y.form (ap (λ (d : ListsData). d.form) e))
-        ∙ ap (λ (s : List (List (Squares n))). of y.span y.form s x.output x.spans x.p) (same_many x.vertex y.vertex (ap (λ (d : ListsData). d.vertex) e))
-        ∙ ap (λ (s : List (List (Squares n))). of y.span y.form y.vertex s x.spans x.p) (same_many x.output y.output (ap (λ (d : ListsData). d.output) e))
-        ∙ ap (λ (s : List (Squares n)). of y.span y.form y.vertex y.output s x.p) (same_some x.spans y.spans (ap (λ (d : ListsData). d.spans) e))
-        ∙ ap (λ (s : Sym n). of y.span y.form y.vertex y.output y.spans s) p_is in
+    ap (λ (s : List ℤ). of s x.form x.vertex x.output x.spans x.p) (ap (λ (d : ListsData). d.span) e)
+    ∙ ap (λ (s : Squares n). of y.span s x.vertex x.output x.spans x.p) (same_squares x.form y.form (ap (λ (d : ListsData). d.form) e))
+    ∙ ap (λ (s : List (List (Squares n))). of y.span y.form s x.output x.spans x.p) (same_many x.vertex y.vertex (ap (λ (d : ListsData). d.vertex) e))
+    ∙ ap (λ (s : List (List (Squares n))). of y.span y.form y.vertex s x.spans x.p) (same_many x.output y.output (ap (λ (d : ListsData). d.output) e))
+    ∙ ap (λ (s : List (Squares n)). of y.span y.form y.vertex y.output s x.p) (same_some x.spans y.spans (ap (λ (d : ListsData). d.spans) e))
+    ∙ ap (λ (s : Sym n). of y.span y.form y.vertex y.output y.spans s) p_is in
     same_shape (shape_of x) (shape_of y) same x.symmetric y.symmetric
 
 three_is : (a b : ListsData) → of_three a ≡ of_three b → a ≡ b

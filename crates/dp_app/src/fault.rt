@@ -3,7 +3,9 @@ ghost use Rattle.std.specs.Prelude.{◌≡◌};
 ghost use Rattle.dp_app.specs.FaultLines.{fault_line, fault_status};
 
 use crate::Status;
-use crate::lines::{file_line, fixed_line, kind_word, line_kind_word, long_cycles_line, named_line};
+use crate::lines::{
+    file_line, fixed_line, kind_word, line_kind_word, long_cycles_line, named_line,
+};
 use crate::plant_lines::{gains_line, plant_line};
 use crate::refusals::{GainsRefusal, PlantRefusal};
 use arrayvec::ArrayVec;

@@ -95,19 +95,13 @@ fn condition_line(fault: &CertFault) -> ArrayVec<u8, LINE>
     match fault {
         CertFault::Range { name } => key_line(b"fault gains range", name.as_bytes()),
         CertFault::Rate => fixed_line(b"fault gains rate\n"),
-        CertFault::FormNotShown { row, short } => {
-            short_line(b"fault gains form", *row, *short)
-        }
+        CertFault::FormNotShown { row, short } => { short_line(b"fault gains form", *row, *short) }
         CertFault::VertexNotShown {
             axis,
             vertex,
             row,
             short,
-        } => short_line(
-            &of_two(b"fault gains vertex", *axis, *vertex),
-            *row,
-            *short,
-        ),
+        } => short_line(&of_two(b"fault gains vertex", *axis, *vertex), *row, *short),
         CertFault::InputShort => fixed_line(b"fault gains input\n"),
         CertFault::RoundShort => fixed_line(b"fault gains round\n"),
         CertFault::OutputNotShown {

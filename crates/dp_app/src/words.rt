@@ -16,7 +16,9 @@ pub enum Command<'a> {
         script: &'a str,
     },
     /// Tells how far a bad position reference can move each thruster of a plant.
-    Check { plant: &'a str },
+    Check {
+        plant: &'a str,
+    },
 }
 
 /// The command of a command line, unless its words are no command.

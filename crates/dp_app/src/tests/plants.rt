@@ -72,7 +72,8 @@ fn the_sample_plants_are_checked(rt: HostRuntime) -> Result<(), Fail> {
 }
 
 /// The two sample plants have the same gains and cases, but for the wave filter.
-const CHECKED: &str = "0~accepted\ncase 0\nt0 C 895 R 22759835\nt1 C 894 R 22751555\nt2 C 716 R 18412615\nt3 C 716 R 18412615\nt4 C 716 R 18412615\nt5 C 716 R 18412615\ncase 1\nt0 C 0 R 1048576\nt1 C 1789 R 44462814\nt2 C 0 R 1048576\nt3 C 1431 R 35776654\nt4 C 0 R 1048576\nt5 C 1431 R 35776654\ncase 2\nt0 C 1789 R 44462814\nt1 C 0 R 1048576\nt2 C 1431 R 35776654\nt3 C 0 R 1048576\nt4 C 1431 R 35776654\nt5 C 0 R 1048576\nend 3\n";
+const CHECKED: &str =
+    "0~accepted\ncase 0\nt0 C 895 R 22759835\nt1 C 894 R 22751555\nt2 C 716 R 18412615\nt3 C 716 R 18412615\nt4 C 716 R 18412615\nt5 C 716 R 18412615\ncase 1\nt0 C 0 R 1048576\nt1 C 1789 R 44462814\nt2 C 0 R 1048576\nt3 C 1431 R 35776654\nt4 C 0 R 1048576\nt5 C 1431 R 35776654\ncase 2\nt0 C 1789 R 44462814\nt1 C 0 R 1048576\nt2 C 1431 R 35776654\nt3 C 0 R 1048576\nt4 C 1431 R 35776654\nt5 C 0 R 1048576\nend 3\n";
 
 /// Checks a plant file, and shows the exit code, a `~` and what was written.
 fn checked(rt: &impl Abort, alloc: Global, plant: &[u8]) -> Result<String, Fail> {
