@@ -10,6 +10,8 @@ PROGRAM is the built program (crates/dp_app/out/dp_app after `rt ci`), REFERENCE
   either line end, a missing last line feed; now and then a file isn't there or the words are odd. With `replay2` the plants have a wave filter.
 - `hurt`: plant files with a key missing, of a wrong kind or out of range, and texts that are no TOML, by `check`.
 - `cert1`, `cert2`: gains and certificates of either version that are varied, by `check`.
+- `trial`, `trial2`: random plants that are sound, by `trial` of a random number.
+- `make`: random numbers, and words that are none, by `make`; the whole record is compared.
 
 Output and exit status have to be equal. A case that differs is made smaller, line by line, and printed. Nothing here is part of the gate.
 """
@@ -29,7 +31,29 @@ KINDS = {
     "hurt": lambda rng: [plants.text_of(plants.hurt(rng, plants.sound(rng, rng.choice([1, 1, 2]))))],
     "cert1": lambda rng: [plants.text_of(plants.certificate(rng, 1))],
     "cert2": lambda rng: [plants.text_of(plants.certificate(rng, 2))],
+    "trial": lambda rng: [plants.text_of(plants.sound(rng))],
+    "trial2": lambda rng: [plants.text_of(plants.sound(rng, 2))],
+    "make": lambda rng: [],
 }
+
+# What comes before and after the names of the files.
+COMMANDS = {
+    "replay": (["replay"], False),
+    "replay2": (["replay"], False),
+    "hurt": (["check"], False),
+    "cert1": (["check"], False),
+    "cert2": (["check"], False),
+    "trial": (["trial"], True),
+    "trial2": (["trial"], True),
+    "make": (["make"], True),
+}
+
+
+def number_word(rng):
+    """The number of a record, and now and then a word that is none."""
+    if cases.one_in(rng, 8):
+        return rng.choice(["", "4294967296", "00000000001", "0000000001", "+1", "-1", "1.0", "0x1", "9999999999", "12345678901", "x", "4294967295", "0"])
+    return str(rng.choice([rng.randrange(10), rng.randrange(2**32), 2**32 - 1 - rng.randrange(10)]))
 
 
 def answer(command, words):
@@ -40,8 +64,9 @@ def answer(command, words):
 class Pair:
     """The two programs, and a folder for the files of a case: a plant, and for a replay a record and a script."""
 
-    def __init__(self, ours, theirs, folder):
-        self.ours, self.theirs = ours, theirs
+    def __init__(self, ours, theirs, folder, command):
+        self.ours, self.theirs, self.command = ours, theirs, command
+        self.after = []
         self.names = [os.path.join(folder, name) for name in ["plant", "record", "script"]]
 
     def answers(self, texts, words=None):
@@ -49,7 +74,7 @@ class Pair:
             with open(name, "wb") as file:
                 file.write(text.encode("latin-1"))
         if words is None:
-            words = ["check" if len(texts) == 1 else "replay"] + self.names[: len(texts)]
+            words = self.command + self.names[: len(texts)] + self.after
         return answer(self.ours, words), answer(self.theirs, words)
 
     def differ(self, texts):
@@ -64,7 +89,8 @@ def odd_words(rng, names):
     return rng.choice([[], ["replay"], ["check"], ["check", gone], ["check", plant, plant], ["replay", plant, gone], ["replay", plant, gone, gone],
                        ["replay", gone] + names[1:], ["replay", plant, gone] + names[2:], ["replay"] + names[:2] + [gone], ["play"] + names,
                        ["replay"] + names + [plant], ["replay"] + [plant] * 3, ["check", "-x"], ["--help"], ["-h"], ["check", "--help"],
-                       ["check", "--", plant], ["--", "check", plant], ["check", "-"], ["-"], ["check", "-5"]])
+                       ["check", "--", plant], ["--", "check", plant], ["check", "-"], ["-"], ["check", "-5"], ["make"], ["make", plant],
+                       ["make", "1", "2"], ["trial", plant], ["trial", gone, "1"], ["trial", plant, "1", "1"], ["trial", "1", plant]])
 
 
 def smaller(pair, texts):
@@ -96,9 +122,11 @@ def main():
     rng = random.Random(seed)
     statuses = {}
     with tempfile.TemporaryDirectory() as folder:
-        pair = Pair([words[3]], words[5:], folder)
+        command, has_number = COMMANDS[words[0]]
+        pair = Pair([words[3]], words[5:], folder, command)
         for number in range(count):
             texts = KINDS[words[0]](rng)
+            pair.after = [number_word(rng)] if has_number else []
             odd = odd_words(rng, pair.names) if cases.one_in(rng, 40) else None
             ours, theirs = pair.answers(texts, odd)
             statuses[ours[0]] = statuses.get(ours[0], 0) + 1

@@ -34,6 +34,3 @@ pub use case::Case;
 pub use cases::Cases;
 pub use fault::{CaseFault, CaseRefusal};
 pub use refusals::first_refused;
-
-#[cfg(test)]
-mod tests;

@@ -10,9 +10,9 @@ use Rattle.dp_app.specs.declared.fault.Fault.{Fault}
 use Rattle.dp_app.specs.declared.fault.Fault.TheVariants.{Long, Usage}
 use Rattle.dp_app.specs.declared.fault.File.TheVariants as file
 use Rattle.dp_app.specs.Files.{Prefix, plant_limit, prefix_of}
-use Rattle.dp_app.specs.Outcome.{Asks, AsksByData, Task, plant_name, refused_or, task_on}
+use Rattle.dp_app.specs.Outcome.{Asks, AsksByData, Task, fault_or, task_on, to_make}
 use Rattle.dp_app.specs.PlantFiles.{IsPlantOf, IsPlantRefusal, IsRefusedBy, data_by_keys, data_in, data_of, data_within, document_of, plant_fault}
-use Rattle.dp_app.specs.Words.{Command}
+use Rattle.dp_app.specs.Words.{Command, check, make, replay, trial}
 use Rattle.dp_app.proofs.SamePlants.{same_plant}
 
 -- ---- what holds of the files, where they are told
@@ -30,11 +30,14 @@ both_files (Some told) P Q R f h k = f told h k
 by_data : (task : Plant → Result Task Fault) (d : Result PlantData Fault) (x y : Result Task Fault) → AsksByData task d x → AsksByData task d y → x ≡ y
 by_data task (Err fault) x y a b = a ∙ sym b
 by_data task (Ok found) x y (p, p_is, a) (q, q_is, b) =
-    a ∙ ap (λ (r : Plant). refused_or (plant_fault r) (task r)) (same_plant p q (p_is ∙ sym q_is)) ∙ sym b
+    a ∙ ap (λ (r : Plant). fault_or (plant_fault r) (task r)) (same_plant p q (p_is ∙ sym q_is)) ∙ sym b
 
 pub asked_once : (c : Option Command) (files : Files) (x y : Result Task Fault) → Asks c files x → Asks c files y → x ≡ y
 asked_once None files x y a b = a ∙ sym b
-asked_once (Some c) files x y a b = by_data (task_on c files) (data_in (text_named files (plant_name c))) x y a b
+asked_once (Some (make number)) files x y a b = a ∙ sym b
+asked_once (Some (replay plant r s)) files x y a b = by_data (task_on (replay plant r s) files) (data_in (text_named files plant)) x y a b
+asked_once (Some (check plant)) files x y a b = by_data (task_on (check plant) files) (data_in (text_named files plant)) x y a b
+asked_once (Some (trial plant n)) files x y a b = by_data (task_on (trial plant n) files) (data_in (text_named files plant)) x y a b
 
 -- so what holds of one is said of each
 pub of_asked : (files : Option Files) (c : Option Command) (r : Result Task Fault) (P : Result Task Fault → Type 0)
@@ -49,13 +52,13 @@ pub asks_on : (task : Plant → Result Task Fault) (text : Option (List ℕ)) (p
     → AsksByData task (data_in text) r
 asks_on task text p r is plant =
     subst (λ (d : Result PlantData Fault). AsksByData task d r) (sym plant.found)
-    (p, refl, sym is ∙ sym (ap (λ (f : Option Fault). refused_or f (task p)) plant.sound))
+    (p, refl, sym is ∙ sym (ap (λ (f : Option Fault). fault_or f (task p)) plant.sound))
 
 pub asks_refused : (task : Plant → Result Task Fault) (text : Option (List ℕ)) (fault : Fault) → IsPlantRefusal text fault → AsksByData task (data_in text) (Err fault)
 asks_refused task text fault bad = by (data_in text) bad
   where
     by : (d : Result PlantData Fault) → IsRefusedBy d fault → AsksByData task d (Err fault)
-    by (Ok found) (p, is, why) = (p, is, sym (ap (λ (f : Option Fault). refused_or f (task p)) why))
+    by (Ok found) (p, is, why) = (p, is, sym (ap (λ (f : Option Fault). fault_or f (task p)) why))
     by (Err first) is = ap Err (sym is)
 
 -- the plant was found before what follows from it
@@ -97,9 +100,12 @@ some_task : (task : Plant → Result Task Fault) (text : Option (List ℕ)) (d :
 some_task task text (Ok found) is =
     let read = document_in text found is in
     let made = plant_from read.0 found read.1 in
-    (refused_or (plant_fault made.0) (task made.0), (made.0, made.1, refl))
+    (fault_or (plant_fault made.0) (task made.0), (made.0, made.1, refl))
 some_task task text (Err fault) is = (Err fault, refl)
 
 pub something_asked : (c : Option Command) (files : Files) → (x : Result Task Fault) × Asks c files x
 something_asked None files = (Err Usage, refl)
-something_asked (Some c) files = some_task (task_on c files) (text_named files (plant_name c)) (data_in (text_named files (plant_name c))) refl
+something_asked (Some (make number)) files = (Ok (to_make number), refl)
+something_asked (Some (replay plant r s)) files = some_task (task_on (replay plant r s) files) (text_named files plant) (data_in (text_named files plant)) refl
+something_asked (Some (check plant)) files = some_task (task_on (check plant) files) (text_named files plant) (data_in (text_named files plant)) refl
+something_asked (Some (trial plant n)) files = some_task (task_on (trial plant n) files) (text_named files plant) (data_in (text_named files plant)) refl

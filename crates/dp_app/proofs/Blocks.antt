@@ -16,11 +16,11 @@ use Rattle.dp_report.specs.Agreement.{agreed}
 use Rattle.dp_report.specs.declared.block.Block.{Block}
 use Rattle.dp_script.specs.declared.timed_act.TimedAct.{TimedAct}
 use Rattle.dp_script.specs.TimedActs.{acts_at}
-use Rattle.dp_app.specs.Acting.{all_acted, cycled, voted, voters}
+use Rattle.dp_app.specs.Acting.{cycle_events, events_of_acts, vote_events, voters}
 use Rattle.dp_app.specs.Blocks.{block_at}
 
-pub cycled_is : (p : Plant) (script : List TimedAct) (f : Frame) (es : List Event) → voted (voters p) (all_acted p f.cycle (acts_at f.cycle script) (Wire f ∷ es)) ≡ cycled p script f es
-unfolding cycled
+pub cycled_is : (p : Plant) (script : List TimedAct) (f : Frame) (es : List Event) → vote_events (voters p) (events_of_acts p f.cycle (acts_at f.cycle script) (Wire f ∷ es)) ≡ cycle_events p script f es
+unfolding cycle_events
 cycled_is p script f es = refl
 
 pub block_is : (n cycle : ℕ) (h : List Moment) (modes : List Mode) (ballots : List Ballot) (held : List (List (Option ℤ))) (alarms : Option Alarms)

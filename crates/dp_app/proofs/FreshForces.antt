@@ -21,10 +21,10 @@ use Rattle.dp_report.specs.declared.block.Block.{Block}
 use Rattle.dp_script.specs.declared.timed_act.TimedAct.{TimedAct}
 use Rattle.dp_script.specs.TimedActs.{acts_at}
 use Rattle.dp_app.specs.declared.fault.Fault.{Fault}
-use Rattle.dp_app.specs.Acting.{all_acted, cycled, played, voters}
+use Rattle.dp_app.specs.Acting.{cycle_events, events_of_acts, play_events, voters}
 use Rattle.dp_app.specs.Blocks.{block_at, block_of, blocks}
 use Rattle.dp_app.specs.Headline.{FreshForcesAreReference, TellsReferenceForces}
-use Rattle.dp_app.specs.Outcome.{Task, to_check, to_replay}
+use Rattle.dp_app.specs.Outcome.{Task, to_check, to_make, to_replay, to_trial}
 use Rattle.dp_app.proofs.Blocks.{cycled_is}
 use Rattle.dp_app.proofs.PlayedFrames.{begun_played, frames_played}
 use Rattle.dp_app.proofs.Lists.{take_next}
@@ -35,17 +35,17 @@ use Rattle.dp_app.proofs.Votes.{given_voted}
 pub record Found (p : Plant) (script : List TimedAct) (fs : List Frame) (es : List Event) (n : ℕ) (b : Block) : Type 0 where
   pub frame : Frame
   pub at : slice_get fs n ≡ Some frame
-  pub is : b ≡ block_of p frame.cycle (cycled p script frame (played p script (take n fs) es))
+  pub is : b ≡ block_of p frame.cycle (cycle_events p script frame (play_events p script (take n fs) es))
 
 some_is : {A : Type 0} (x y : A) → Some x ≡ Some y → x ≡ y
 some_is x y e = cc
 
 found : (p : Plant) (script : List TimedAct) (fs : List Frame) (es : List Event) (n : ℕ) (b : Block) → slice_get (blocks p script fs es) n ≡ Some b → Found p script fs es n b
-unfolding blocks played
+unfolding blocks play_events
 found p script [] es n b e = absurd cc
 found p script (f ∷ fs) es zero b e = record { frame = f; at = refl; is = sym (some_is _ b e) }
 found p script (f ∷ fs) es (suc n) b e =
-    let later = found p script fs (cycled p script f es) n b e in
+    let later = found p script fs (cycle_events p script f es) n b e in
     record { frame = later.frame; at = later.at; is = later.is }
 
 range_at : (a n k x : ℕ) → slice_get (range_with_len a n) k ≡ Some x → (x ≡ a + k) × (k < n)
@@ -72,21 +72,21 @@ within (g ∷ fs) zero f e = omega arith
 within (g ∷ fs) (suc n) f e = let later = within fs n f e in omega arith
 
 module _ (law : FreshIsReference) (p : Plant) (script : List TimedAct) (fs : List Frame) where
-  cycle_is : (n : ℕ) (f : Frame) → slice_get fs n ≡ Some f → cycled p script f (played p script (take n fs) []) ≡ played p script (take (n + 1) fs) []
-  cycle_is n f at = sym (ap (λ (l : List Frame). played p script l []) (take_next fs n f at) ∙ played_next p script (take n fs) f [])
+  cycle_is : (n : ℕ) (f : Frame) → slice_get fs n ≡ Some f → cycle_events p script f (play_events p script (take n fs) []) ≡ play_events p script (take (n + 1) fs) []
+  cycle_is n f at = sym (ap (λ (l : List Frame). play_events p script l []) (take_next fs n f at) ∙ played_next p script (take n fs) f [])
 
   given_in : (n k : ℕ) (f : Frame) → k < voters p → slice_get fs n ≡ Some f
-      → given_ballot k (history p (played p script (take (n + 1) fs) [])) ≡ Some (ballot k (history p (played p script (take (n + 1) fs) [])))
+      → given_ballot k (history p (play_events p script (take (n + 1) fs) [])) ≡ Some (ballot k (history p (play_events p script (take (n + 1) fs) [])))
   given_in n k f lt at =
-      let before = all_acted p f.cycle (acts_at f.cycle script) (Wire f ∷ played p script (take n fs) []) in
+      let before = events_of_acts p f.cycle (acts_at f.cycle script) (Wire f ∷ play_events p script (take n fs) []) in
       subst (λ (l : List Event). given_ballot k (history p l) ≡ Some (ballot k (history p l)))
-      (cycled_is p script f (played p script (take n fs) []) ∙ cycle_is n f at)
+      (cycled_is p script f (play_events p script (take n fs) []) ∙ cycle_is n f at)
       (given_voted p (voters p) k before lt)
 
   pub fresh_forces : FreshForcesAreReference p script fs (blocks p script fs [])
   fresh_forces n k b f one at fresh =
       let c = found p script fs [] n b at in
-      let es = played p script (take (n + 1) fs) [] in
+      let es = play_events p script (take (n + 1) fs) [] in
       let is : b ≡ block_of p c.frame.cycle es = c.is ∙ ap (λ (l : List Event). block_of p c.frame.cycle l) (cycle_is n c.frame c.at) in
       let b_at = ballot_at (voters p) c.frame.cycle k (history p es) (Fresh f) (subst (λ (x : Block). slice_get x.ballots.items k ≡ Some (Fresh f)) is fresh) in
       let told : given_ballot k (history p es) ≡ Some (Fresh f) = given_in n k c.frame b_at.0 c.at ∙ ap Some b_at.1 in
@@ -98,5 +98,7 @@ module _ (law : FreshIsReference) (p : Plant) (script : List TimedAct) (fs : Lis
 
 pub tells : (law : FreshIsReference) (x : Result Task Fault) → TellsReferenceForces x
 tells law (Ok (to_replay x)) = fresh_forces law x.plant x.script x.frames
+tells law (Ok (to_trial x)) = fresh_forces law x.plant x.script x.frames
 tells law (Ok (to_check p)) = tt
+tells law (Ok (to_make number)) = tt
 tells law (Err fault) = tt

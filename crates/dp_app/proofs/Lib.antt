@@ -13,10 +13,14 @@ pub mod Blocks
 pub mod FreshForces
 pub mod Playing
 pub mod Showing
+pub mod Tallies
+pub mod Trials
 pub mod ReaderSteps
 pub mod Finishing
 pub mod PlantFacts
 pub mod Records
+pub mod Streams
 pub mod Results
 pub mod Outcomes
 pub mod Endings
+pub mod ReadStops

@@ -1,7 +1,9 @@
 -- Outcomes, from what words and files ask for.
-use Rattle.std.proofs.Common.{◌≡◌, ◌≢◌, ◌⊎◌, ◌≤◌, ℕ, List, [], ◌∷◌, ◌++◌, length, Option, Some, None, Err, Result, IfSome, inl, inr, refl, sym, ap, ◌∙◌, subst, arith}
+use Rattle.std.proofs.Common.{true, ◌≡◌, ◌≢◌, ◌⊎◌, ◌≤◌, ℕ, List, [], ◌∷◌, ◌++◌, length, Option, Some, None, Err, Ok, Result, IfSome, inl, inr, refl, sym, ap, ◌∙◌, subst, arith}
 use Rattle.std.specs.Io.KnownBytes.{Appends}
+use Rattle.dp_plant.specs.declared.frames.Frame.{Frame}
 use Rattle.dp_plant.specs.declared.plant.Plant.{Plant}
+use Rattle.dp_report.specs.declared.block.Block.{Block}
 use Rattle.dp_script.specs.declared.timed_act.TimedAct.{TimedAct}
 use Rattle.dp_shell.specs.Faults.{Rose}
 use Rattle.dp_shell.specs.Texts.{Files}
@@ -9,31 +11,40 @@ use Rattle.dp_shell.proofs.Taken.{line_cut, line_whole}
 use Rattle.dp_app.specs.declared.fault.Fault.{Fault}
 use Rattle.dp_app.specs.declared.fault.Fault.TheVariants.{Usage, Read, Long, BadPlant, GainsRefused, BadScript, BadRecord, LongCycles, Memory}
 use Rattle.dp_app.specs.declared.fault.File.{File}
+use Rattle.dp_app.specs.declared.fault.File.TheVariants.{Plant as PlantFile, Script, Record}
 use Rattle.dp_app.specs.declared.status.Status.{Status}
 use Rattle.dp_app.specs.declared.status.Status.TheVariants as status
 use Rattle.dp_app.specs.Causes.{AnyRose, ReadFailed}
 use Rattle.dp_app.specs.FaultLines.{fault_line, fault_status}
 use Rattle.dp_app.specs.Files.{Prefix}
-use Rattle.dp_app.specs.Outcome.{Asks, IsOfInputs, Task, ended, last_line, last_status, play_of, played_out}
+use Rattle.dp_app.specs.Outcome.{Asks, IsOfInputs, Task, blocks_in, outcome_of, last_line, last_status, play_of, play_outcome, to_replay}
 use Rattle.dp_app.specs.Playing.{text_played}
 use Rattle.dp_app.specs.Words.{Command, FileNamed}
-use Rattle.dp_app.specs.Written.{HasWritten, IsAnnounced, LineEnds}
+use Rattle.dp_app.specs.Written.{EndsAtRead, HasWritten, IsAnnounced, LineEnds}
 use Rattle.dp_app.proofs.Asking.{of_asked}
 use Rattle.dp_app.proofs.Endings.{written_inputs}
 
 -- the outcome of what a record plays
 pub out_is : (p : Plant) (script : List TimedAct) (f : Prefix) (count : ℕ) (fault : Option Fault) → count ≡ length (play_of p script f).frames → fault ≡ (play_of p script f).fault
-    → text_played p script (play_of p script f).frames ++ last_line count fault ≡ (played_out (play_of p script f)).text
-unfolding played_out play_of
+    → text_played p script true (play_of p script f).frames ++ last_line count fault ≡ (play_outcome (play_of p script f)).text
+unfolding play_outcome play_of
 out_is p script f count fault many is =
-    let first = text_played p script (play_of p script f).frames in
+    let first = text_played p script true (play_of p script f).frames in
     ap (λ (n : ℕ). first ++ last_line n fault) many ∙ ap (λ (o : Option Fault). first ++ last_line (length (play_of p script f).frames) o) is
 
-pub status_is : (p : Plant) (script : List TimedAct) (f : Prefix) (fault : Option Fault) → fault ≡ (play_of p script f).fault → last_status fault ≡ (played_out (play_of p script f)).status
-unfolding played_out
-status_is p script f fault is = ap last_status is
+-- and of a play that was told
+pub out_of : (p : Plant) (script : List TimedAct) (fs : List Frame) (count : ℕ) (fault : Option Fault) (r : Result Task Fault) → count ≡ length fs
+    → r ≡ Ok (to_replay (record { plant = p; script = script; frames = fs; fault = fault })) → text_played p script true fs ++ last_line count fault ≡ (outcome_of r).text
+unfolding play_outcome
+out_of p script fs count fault r many is =
+    ap (λ (n : ℕ). text_played p script true fs ++ last_line n fault) many ∙ ap (λ (q : Result Task Fault). (outcome_of q).text) (sym is)
 
-any_files : (files : Option Files) (P : Files → Type 0) → ((told : Files) → P told) → IfSome files P
+pub status_of : (p : Plant) (script : List TimedAct) (fs : List Frame) (fault : Option Fault) (r : Result Task Fault)
+    → r ≡ Ok (to_replay (record { plant = p; script = script; frames = fs; fault = fault })) → last_status fault ≡ (outcome_of r).status
+unfolding play_outcome
+status_of p script fs fault r is = ap (λ (q : Result Task Fault). (outcome_of q).status) (sym is)
+
+pub any_files : (files : Option Files) (P : Files → Type 0) → ((told : Files) → P told) → IfSome files P
 any_files None P all = tt
 any_files (Some told) P all = all told
 
@@ -112,43 +123,52 @@ told_alone Memory old new h = tt
 
 -- ---- a refusal before anything is written
 
-module _ (failed : File → Type 0) (text : List ℕ) (old new : Option (List ℕ)) (s : Status) where
-  given_line : (fault : Fault) → IsOfInputs (fault_status fault) → LineEnds (fault_status fault) (fault_line fault) old new s → HasWritten failed (fault_line fault) s old new
+-- the line stands alone
+read_alone : (bs : List Block) (file : File) (old new : Option (List ℕ)) → Appends old new (fault_line (Read file)) → EndsAtRead bs file old new
+read_alone bs Record old new h = (0, omega arith, h)
+read_alone bs PlantFile old new h = h
+read_alone bs Script old new h = h
+
+module _ (failed : File → Type 0) (bs : List Block) (text : List ℕ) (old new : Option (List ℕ)) (s : Status) where
+  given_line : (fault : Fault) → IsOfInputs (fault_status fault) → LineEnds (fault_status fault) (fault_line fault) old new s → HasWritten failed bs (fault_line fault) s old new
   given_line fault is (inl (e, h)) =
-      subst (λ (t : Status). HasWritten failed (fault_line fault) t old new) (sym e) (written_inputs failed (fault_line fault) old new (fault_status fault) is h)
-  given_line fault is (inr (inl (e, h))) = subst (λ (t : Status). HasWritten failed (fault_line fault) t old new) (sym e) (inl h)
-  given_line fault is (inr (inr (e, h))) = subst (λ (t : Status). HasWritten failed (fault_line fault) t old new) (sym e) (inl h)
+      subst (λ (t : Status). HasWritten failed bs (fault_line fault) t old new) (sym e) (written_inputs failed bs (fault_line fault) old new (fault_status fault) is h)
+  given_line fault is (inr (inl (e, h))) = subst (λ (t : Status). HasWritten failed bs (fault_line fault) t old new) (sym e) (inl h)
+  given_line fault is (inr (inr (e, h))) = subst (λ (t : Status). HasWritten failed bs (fault_line fault) t old new) (sym e) (inl h)
 
-  read_line : (file : File) → failed file → LineEnds status.ReadFault (fault_line (Read file)) old new s → HasWritten failed text s old new
-  read_line file why (inl (e, h)) = subst (λ (t : Status). HasWritten failed text t old new) (sym e) (file, why, h)
-  read_line file why (inr (inl (e, h))) = subst (λ (t : Status). HasWritten failed text t old new) (sym e) (inr (Read file, why, line_cut old new text (fault_line (Read file)) h))
-  read_line file why (inr (inr (e, h))) = subst (λ (t : Status). HasWritten failed text t old new) (sym e) (inr (inl (Read file, why, line_cut old new text (fault_line (Read file)) h)))
+  read_line : (file : File) → failed file → LineEnds status.ReadFault (fault_line (Read file)) old new s → HasWritten failed bs text s old new
+  read_line file why (inl (e, h)) = subst (λ (t : Status). HasWritten failed bs text t old new) (sym e) (file, why, read_alone bs file old new h)
+  read_line file why (inr (inl (e, h))) = subst (λ (t : Status). HasWritten failed bs text t old new) (sym e) (inr (Read file, why, line_cut old new text (fault_line (Read file)) h))
+  read_line file why (inr (inr (e, h))) = subst (λ (t : Status). HasWritten failed bs text t old new) (sym e) (inr (inl (Read file, why, line_cut old new text (fault_line (Read file)) h)))
 
-  memory_line : LineEnds status.Memory (fault_line Memory) old new s → HasWritten failed text s old new
-  memory_line (inl (e, h)) = subst (λ (t : Status). HasWritten failed text t old new) (sym e) (inr (inr (line_whole old new text (fault_line Memory) h)))
-  memory_line (inr (inl (e, h))) = subst (λ (t : Status). HasWritten failed text t old new) (sym e) (inr (Memory, tt, line_cut old new text (fault_line Memory) h))
-  memory_line (inr (inr (e, h))) = subst (λ (t : Status). HasWritten failed text t old new) (sym e) (inr (inl (Memory, tt, line_cut old new text (fault_line Memory) h)))
+  memory_line : LineEnds status.Memory (fault_line Memory) old new s → HasWritten failed bs text s old new
+  memory_line (inl (e, h)) = subst (λ (t : Status). HasWritten failed bs text t old new) (sym e) (inr (inr (line_whole old new text (fault_line Memory) h)))
+  memory_line (inr (inl (e, h))) = subst (λ (t : Status). HasWritten failed bs text t old new) (sym e) (inr (Memory, tt, line_cut old new text (fault_line Memory) h))
+  memory_line (inr (inr (e, h))) = subst (λ (t : Status). HasWritten failed bs text t old new) (sym e) (inr (inl (Memory, tt, line_cut old new text (fault_line Memory) h)))
 
 module _ (failed : File → Type 0) (files : Option Files) (c : Option Command) (old new : Option (List ℕ)) (s : Status) where
+  abbrev Wrote : Result Task Fault → Type 0
+  Wrote x = HasWritten failed (blocks_in x) (outcome_of x).text s old new
+
   given_written : (fault : Fault) → IsOfInputs (fault_status fault) → IfSome files (λ told. Asks c told (Err fault))
-      → LineEnds (fault_status fault) (fault_line fault) old new s → IfSome files (λ told. (x : Result Task Fault) → Asks c told x → HasWritten failed (ended x).text s old new)
+      → LineEnds (fault_status fault) (fault_line fault) old new s → IfSome files (λ told. (x : Result Task Fault) → Asks c told x → Wrote x)
   given_written fault plain is ends =
-      of_asked files c (Err fault) (λ x. HasWritten failed (ended x).text s old new) is (given_line failed [] old new s fault plain ends)
+      of_asked files c (Err fault) (λ x. Wrote x) is (given_line failed [] [] old new s fault plain ends)
 
   pub refused_written : (fault : Fault) → (IsOfInputs (fault_status fault) → IfSome files (λ told. Asks c told (Err fault)))
       → ((file : File) → fault ≡ Read file → failed file) → LineEnds (fault_status fault) (fault_line fault) old new s
-      → IfSome files (λ told. (x : Result Task Fault) → Asks c told x → HasWritten failed (ended x).text s old new)
+      → IfSome files (λ told. (x : Result Task Fault) → Asks c told x → Wrote x)
   refused_written fault is why ends = by (cause_of fault)
     where
-      by : Cause fault → IfSome files (λ told. (x : Result Task Fault) → Asks c told x → HasWritten failed (ended x).text s old new)
+      by : Cause fault → IfSome files (λ told. (x : Result Task Fault) → Asks c told x → Wrote x)
       by (of_inputs given) = given_written fault given (is given) ends
       by (of_read file e) =
-          any_files files (λ told. (x : Result Task Fault) → Asks c told x → HasWritten failed (ended x).text s old new)
-          (λ told x asks. read_line failed (ended x).text old new s file (why file e)
+          any_files files (λ told. (x : Result Task Fault) → Asks c told x → Wrote x)
+          (λ told x asks. read_line failed (blocks_in x) (outcome_of x).text old new s file (why file e)
           (subst (λ (f : Fault). LineEnds (fault_status f) (fault_line f) old new s) e ends))
       by (of_memory e) =
-          any_files files (λ told. (x : Result Task Fault) → Asks c told x → HasWritten failed (ended x).text s old new)
-          (λ told x asks. memory_line failed (ended x).text old new s (subst (λ (f : Fault). LineEnds (fault_status f) (fault_line f) old new s) e ends))
+          any_files files (λ told. (x : Result Task Fault) → Asks c told x → Wrote x)
+          (λ told x asks. memory_line failed (blocks_in x) (outcome_of x).text old new s (subst (λ (f : Fault). LineEnds (fault_status f) (fault_line f) old new s) e ends))
 
 -- ---- the status of a refusal, unless its line was not written
 
@@ -160,10 +180,11 @@ module _ (failed : File → Type 0) (old new : Option (List ℕ)) (s : Status) (
     | inr (inr (e, h)) ↦ subst (λ (t : Status). IsAnnounced t old new) (sym e) tt
   ]
 
-  pub refused_read : ((file : File) → fault ≡ Read file → failed file) → s ≡ status.ReadFault → (file : File) × failed file × Appends old new (fault_line (Read file))
+  pub refused_read : ((file : File) → fault ≡ Read file → failed file) → s ≡ status.ReadFault
+      → (file : File) × failed file × (x : Result Task Fault) × EndsAtRead (blocks_in x) file old new
   refused_read why is = elim ends [
     | inl (e, h) ↦ (let read = read_status fault (sym e ∙ is) in
-        (read.0, why read.0 read.1, subst (λ (f : Fault). Appends old new (fault_line f)) read.1 h))
+        (read.0, why read.0 read.1, Err fault, read_alone [] read.0 old new (subst (λ (f : Fault). Appends old new (fault_line f)) read.1 h)))
     | inr (inl (e, h)) ↦ absurd (let no : status.WriteFault ≡ status.ReadFault = sym e ∙ is in cc)
     | inr (inr (e, h)) ↦ absurd (let no : status.Memory ≡ status.ReadFault = sym e ∙ is in cc)
   ]
@@ -187,7 +208,7 @@ module _ (failed : File → Type 0) (old new : Option (List ℕ)) (s : Status) (
       by_fault e (inr m) = inr (inr (e ∙ ap fault_status m))
 
 -- a read that failed was counted
-any_rose : (files : Option Files) (before now : List ℕ → ℕ) (fs : List FileNamed) (file : File) → ReadFailed files before now fs file → AnyRose fs before now
+pub any_rose : (files : Option Files) (before now : List ℕ → ℕ) (fs : List FileNamed) (file : File) → ReadFailed files before now fs file → AnyRose fs before now
 any_rose files before now [] file h = h
 any_rose files before now (f ∷ fs) file (inl (same, rose)) = inl rose
 any_rose files before now (f ∷ fs) file (inr (passed, later)) = inr (any_rose files before now fs file later)

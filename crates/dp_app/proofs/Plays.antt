@@ -9,65 +9,65 @@ use Rattle.dp_core.specs.declared.event.Event.TheVariants.{Order, Vote}
 use Rattle.dp_report.specs.Block.{block_text}
 use Rattle.dp_script.specs.declared.act.Act.{Act}
 use Rattle.dp_script.specs.declared.timed_act.TimedAct.{TimedAct}
-use Rattle.dp_app.specs.Acting.{acted, all_acted, cycled, ordered, played, voted}
+use Rattle.dp_app.specs.Acting.{act_events, cycle_events, events_of_acts, order_events, play_events, vote_events}
 use Rattle.dp_app.specs.Blocks.{block_of, blocks, text_of}
 use Rattle.dp_app.proofs.Lists.{take_next}
 
-pub ordered_next : (c n : ℕ) (es : List Event) → ordered c (n + 1) es ≡ Order c n ∷ ordered c n es
-unfolding ordered
-ordered_next c n es = ap (λ (m : ℕ). ordered c m es) (add-one n)
+pub ordered_next : (c n : ℕ) (es : List Event) → order_events c (n + 1) es ≡ Order c n ∷ order_events c n es
+unfolding order_events
+ordered_next c n es = ap (λ (m : ℕ). order_events c m es) (add-one n)
 
-pub ordered_none : (c : ℕ) (es : List Event) → ordered c 0 es ≡ es
-unfolding ordered
+pub ordered_none : (c : ℕ) (es : List Event) → order_events c 0 es ≡ es
+unfolding order_events
 ordered_none c es = refl
 
-pub voted_next : (n : ℕ) (es : List Event) → voted (n + 1) es ≡ Vote n ∷ voted n es
-unfolding voted
-voted_next n es = ap (λ (m : ℕ). voted m es) (add-one n)
+pub voted_next : (n : ℕ) (es : List Event) → vote_events (n + 1) es ≡ Vote n ∷ vote_events n es
+unfolding vote_events
+voted_next n es = ap (λ (m : ℕ). vote_events m es) (add-one n)
 
-pub voted_none : (es : List Event) → voted 0 es ≡ es
-unfolding voted
+pub voted_none : (es : List Event) → vote_events 0 es ≡ es
+unfolding vote_events
 voted_none es = refl
 
 module _ (p : Plant) (cycle : ℕ) where
-  acted_append : (xs ys : List Act) (es : List Event) → all_acted p cycle (xs ++ ys) es ≡ all_acted p cycle ys (all_acted p cycle xs es)
-  unfolding all_acted
+  acted_append : (xs ys : List Act) (es : List Event) → events_of_acts p cycle (xs ++ ys) es ≡ events_of_acts p cycle ys (events_of_acts p cycle xs es)
+  unfolding events_of_acts
   acted_append [] ys es = refl
-  acted_append (x ∷ xs) ys es = acted_append xs ys (acted p cycle x es)
+  acted_append (x ∷ xs) ys es = acted_append xs ys (act_events p cycle x es)
 
-  acted_one : (x : Act) (es : List Event) → all_acted p cycle (x ∷ []) es ≡ acted p cycle x es
-  unfolding all_acted
+  acted_one : (x : Act) (es : List Event) → events_of_acts p cycle (x ∷ []) es ≡ act_events p cycle x es
+  unfolding events_of_acts
   acted_one x es = refl
 
-  pub acted_none : (es : List Event) → all_acted p cycle [] es ≡ es
-  unfolding all_acted
+  pub acted_none : (es : List Event) → events_of_acts p cycle [] es ≡ es
+  unfolding events_of_acts
   acted_none es = refl
 
   pub acted_next : (acts : List Act) (i : ℕ) (x : Act) (es : List Event) → slice_get acts i ≡ Some x
-      → all_acted p cycle (take (i + 1) acts) es ≡ acted p cycle x (all_acted p cycle (take i acts) es)
+      → events_of_acts p cycle (take (i + 1) acts) es ≡ act_events p cycle x (events_of_acts p cycle (take i acts) es)
   acted_next acts i x es e =
-      ap (λ (l : List Act). all_acted p cycle l es) (take_next acts i x e)
+      ap (λ (l : List Act). events_of_acts p cycle l es) (take_next acts i x e)
       ∙ acted_append (take i acts) (x ∷ []) es
-      ∙ acted_one x (all_acted p cycle (take i acts) es)
+      ∙ acted_one x (events_of_acts p cycle (take i acts) es)
 
 module _ (p : Plant) (script : List TimedAct) where
-  pub played_append : (fs gs : List Frame) (es : List Event) → played p script (fs ++ gs) es ≡ played p script gs (played p script fs es)
-  unfolding played
+  pub played_append : (fs gs : List Frame) (es : List Event) → play_events p script (fs ++ gs) es ≡ play_events p script gs (play_events p script fs es)
+  unfolding play_events
   played_append [] gs es = refl
-  played_append (f ∷ fs) gs es = played_append fs gs (cycled p script f es)
+  played_append (f ∷ fs) gs es = played_append fs gs (cycle_events p script f es)
 
-  pub played_none : (es : List Event) → es ≡ played p script [] es
-  unfolding played
+  pub played_none : (es : List Event) → es ≡ play_events p script [] es
+  unfolding play_events
   played_none es = refl
 
-  played_one : (f : Frame) (es : List Event) → played p script (f ∷ []) es ≡ cycled p script f es
-  unfolding played
+  played_one : (f : Frame) (es : List Event) → play_events p script (f ∷ []) es ≡ cycle_events p script f es
+  unfolding play_events
   played_one f es = refl
 
-  pub played_next : (fs : List Frame) (f : Frame) (es : List Event) → played p script (fs ++ f ∷ []) es ≡ cycled p script f (played p script fs es)
-  played_next fs f es = played_append fs (f ∷ []) es ∙ played_one f (played p script fs es)
+  pub played_next : (fs : List Frame) (f : Frame) (es : List Event) → play_events p script (fs ++ f ∷ []) es ≡ cycle_events p script f (play_events p script fs es)
+  played_next fs f es = played_append fs (f ∷ []) es ∙ played_one f (play_events p script fs es)
 
-  pub blocks_append : (fs gs : List Frame) (es : List Event) → blocks p script (fs ++ gs) es ≡ blocks p script fs es ++ blocks p script gs (played p script fs es)
-  unfolding blocks played
+  pub blocks_append : (fs gs : List Frame) (es : List Event) → blocks p script (fs ++ gs) es ≡ blocks p script fs es ++ blocks p script gs (play_events p script fs es)
+  unfolding blocks play_events
   blocks_append [] gs es = refl
-  blocks_append (f ∷ fs) gs es = ap (λ l. block_of p f.cycle (cycled p script f es) ∷ l) (blocks_append fs gs (cycled p script f es))
+  blocks_append (f ∷ fs) gs es = ap (λ l. block_of p f.cycle (cycle_events p script f es) ∷ l) (blocks_append fs gs (cycle_events p script f es))

@@ -1,47 +1,45 @@
--- What the bytes of a record bring, one after another.
-use Rattle.std.proofs.Common.{◌≡◌, ℕ, ◌<◌, Bool, true, false, List, [], ◌∷◌, ◌++◌, Option, Some, None, is_some, nat_lt, if◌then◌else◌, refl, sym, ap, ◌∙◌, append_assoc, subst}
+-- What the pieces of a record bring, one after another.
+use Rattle.std.proofs.Common.{◌≡◌, ℕ, ◌<◌, false, true, List, [], ◌∷◌, ◌++◌, Option, Some, None, is_some, refl, sym, ap, ◌∙◌, append_assoc, subst}
 use Rattle.std.proofs.lemmas.List.{append-nil}
 use Rattle.dp_plant.specs.declared.frames.Frame.{Frame}
-use Rattle.dp_frame.specs.declared.entry.Entry.{Entry}
 use Rattle.dp_frame.specs.declared.fault.Refusal.{Refusal}
 use Rattle.dp_frame.specs.declared.fault.Refusal.TheVariants.{Faulty, TooMany}
 use Rattle.dp_frame.specs.declared.feed.Feed.{Feed}
 use Rattle.dp_frame.specs.declared.feed.Feed.TheVariants as feed
 use Rattle.dp_frame.specs.declared.settings.Settings.{Settings}
-use Rattle.dp_frame.specs.Cycles.{frames_so_far}
-use Rattle.dp_frame.specs.Feeds.{answer, answer_to, closed, ClosesCycle, given, told, told_or}
+use Rattle.dp_frame.specs.Cycles.{IsAnswered, frames_so_far}
+use Rattle.dp_frame.specs.Feeds.{answer_to, ClosesCycle, given, is_told, told}
 use Rattle.dp_frame.specs.Ranges.{IsFeedInRange}
-use Rattle.dp_frame.specs.Record.{ended_lines, entries, first_refusal, last_cycle}
+use Rattle.dp_frame.specs.Record.{ended_lines, first_refusal}
 use Rattle.dp_frame.proofs.CycleSteps.{frames-byte, given-told}
 use Rattle.dp_frame.proofs.Endings.{refusal-ends}
 use Rattle.dp_frame.proofs.FinishSteps.{answer-refused}
+use Rattle.dp_frame.proofs.PieceFrames.{piece-gives, piece-told}
 use Rattle.dp_frame.proofs.TextSteps.{ended-none}
 use Rattle.dp_app.specs.declared.fault.Fault.{Fault}
 use Rattle.dp_app.specs.ReaderAnswers.{IsNext, fault_in}
-use Rattle.dp_app.specs.Outcome.{record_fault, refused_by}
+use Rattle.dp_app.specs.Outcome.{record_fault, refusal_fault}
 
 -- ---- the fault that is answered
 
-pub told_is : (r : Refusal) → fault_in (told r) ≡ Some (refused_by r)
+pub told_is : (r : Refusal) → fault_in (told r) ≡ Some (refusal_fault r)
 told_is (Faulty line kind) = refl
 told_is (TooMany line cycle) = refl
 
-none_if : (b : Bool) (frame : Frame) (n : ℕ) → fault_in (if b then feed.Closed frame n else feed.More) ≡ None
-none_if true frame n = refl
-none_if false frame n = refl
+fault_told : (x : Feed) (o : Option Refusal) → is_told x ≡ is_some o → ((r : Refusal) → x ≡ told r → o ≡ Some r) → fault_in x ≡ record_fault o false
+fault_told (feed.Fault line kind) o whether which = ap (λ (r : Option Refusal). record_fault r false) (sym (which (Faulty line kind) refl))
+fault_told (feed.TooMany line cycle) o whether which = ap (λ (r : Option Refusal). record_fault r false) (sym (which (TooMany line cycle) refl))
+fault_told (feed.Closed frame empty) None whether which = refl
+fault_told (feed.Closed frame empty) (Some r) whether which = absurd cc
+fault_told feed.More None whether which = refl
+fault_told feed.More (Some r) whether which = absurd cc
 
-none_closed : (before after : List Entry) → fault_in (closed before after) ≡ None
-unfolding closed
-none_closed before after = none_if (nat_lt (last_cycle before) (last_cycle after)) _ _
-
-fault_or : (r : Option Refusal) (x : Feed) → fault_in x ≡ None → fault_in (told_or r x) ≡ record_fault r false
-fault_or (Some r) x none = told_is r
-fault_or None x none = none
-
--- what a byte, or the end, is answered names the first line that can't be taken
-pub fault_of_answer : (s : Settings) (before after : List (List ℕ)) → fault_in (answer s before after) ≡ record_fault (first_refusal s after) false
-unfolding answer
-fault_of_answer s before after = fault_or (first_refusal s after) (closed (entries s before) (entries s after)) (none_closed (entries s before) (entries s after))
+-- what a piece is answered names the first line that can't be taken
+pub fault_of_piece : (s : Settings) (text piece : List ℕ) (x : Feed) → IsAnswered s text piece x
+    → fault_in x ≡ record_fault (first_refusal s (ended_lines (text ++ piece))) false
+fault_of_piece s text piece x answered =
+    let tells = piece-told s text piece x answered in
+    fault_told x (first_refusal s (ended_lines (text ++ piece))) tells.0 tells.1
 
 pub no_refusal : (r : Option Refusal) → record_fault r false ≡ None → r ≡ None
 no_refusal None e = refl
@@ -65,8 +63,9 @@ module _ (s : Settings) (some : 0 < s.cycle_ms) where
             ∙ ap (λ (l : List ℕ). frames_so_far s (ended_lines l)) (append_assoc text (b ∷ []) more),
       )
 
-  pub so_far_next : (text : List ℕ) (b : ℕ) (x : Feed) → x ≡ answer_to s text b → frames_so_far s (ended_lines text) ++ given x ≡ frames_so_far s (ended_lines (text ++ b ∷ []))
-  so_far_next text b x is = ap (λ (y : Feed). frames_so_far s (ended_lines text) ++ given y) is ∙ sym (frames-byte s text b some)
+  pub so_far_next : (text piece : List ℕ) (x : Feed) → IsAnswered s text piece x
+      → frames_so_far s (ended_lines text) ++ given x ≡ frames_so_far s (ended_lines (text ++ piece))
+  so_far_next text piece x answered = sym (piece-gives s text piece x some answered)
 
   -- past the first line that can't be taken nothing is added
   pub so_far_stays : (text more : List ℕ) (r : Refusal) → first_refusal s (ended_lines text) ≡ Some r

@@ -16,7 +16,7 @@ use Rattle.dp_app.specs.declared.fault.Fault.{Fault}
 use Rattle.dp_app.specs.declared.fault.Fault.TheVariants.{Long}
 use Rattle.dp_app.specs.declared.fault.File.TheVariants.{Record}
 use Rattle.dp_app.specs.Files.{Prefix}
-use Rattle.dp_app.specs.Outcome.{IsOfRecord, frames_played, lines_of, play_of, record_fault, refused_by}
+use Rattle.dp_app.specs.Outcome.{IsOfRecord, frames_played, lines_of, play_of, record_fault, refusal_fault}
 use Rattle.dp_app.proofs.Finishing.{given_prefix, given_open}
 use Rattle.dp_app.proofs.ReaderSteps.{a_refusal}
 
@@ -114,7 +114,7 @@ pub of_record : (o : Option Refusal) → IsOfRecord (record_fault o false)
 of_record None = tt
 of_record (Some r) = by_kind r
   where
-    by_kind : (x : Refusal) → IsOfRecord (Some (refused_by x))
+    by_kind : (x : Refusal) → IsOfRecord (Some (refusal_fault x))
     by_kind (Faulty line kind) = (tt, λ e. absurd cc)
     by_kind (TooMany line cycle) = (tt, λ e. absurd cc)
 

@@ -13,7 +13,7 @@ use Rattle.dp_report.specs.Agreement.{agreed}
 use Rattle.dp_report.specs.Block.{block_text}
 use Rattle.dp_report.specs.declared.block.Block.{Block}
 use Rattle.dp_script.specs.declared.timed_act.TimedAct.{TimedAct}
-use Rattle.dp_app.specs.Acting.{cycled, voters}
+use Rattle.dp_app.specs.Acting.{cycle_events, voters}
 
 -- at the end of a cycle: how each computer takes part, the ballot of each of n voters and the orders
 -- that it took, and the alarms on which two of the computers' last issues agree, of those of this
@@ -34,8 +34,8 @@ block_of p cycle es = block_at (voters p) cycle (history p es)
 -- the blocks of one cycle after another, after these events
 unfoldable pub blocks : Plant → List TimedAct → List Frame → List Event → List Block
 blocks p script [] es = []
-blocks p script (f ∷ fs) es = block_of p f.cycle (cycled p script f es)
-    ∷ blocks p script fs (cycled p script f es)
+blocks p script (f ∷ fs) es = block_of p f.cycle (cycle_events p script f es)
+    ∷ blocks p script fs (cycle_events p script f es)
 
 -- their text
 abbrev pub text_of : List Block → List ℕ

@@ -32,6 +32,10 @@ ReadFailed files before now (f ∷ fs) file =
     ((f.file ≡ file) × RoseAt before now f.name)
     ⊎ (IfSome files (λ told. HasPassed told f) × ReadFailed files before now fs file)
 
+-- a read of the record of this name failed
+abbrev pub RecordFailed : (List ℕ → ℕ) → (List ℕ → ℕ) → List ℕ → File → Type 0
+RecordFailed before now name file = (file ≡ Record) × RoseAt before now name
+
 -- a read of one of these files failed
 abbrev pub AnyRose : List FileNamed → (List ℕ → ℕ) → (List ℕ → ℕ) → Type 0
 AnyRose [] before now = ⊥

@@ -30,31 +30,31 @@ file_word Record = codes "record"
 abbrev pub file_line : List ℕ → File → List ℕ
 file_line what file = codes "fault " ++ (what ++ (codes " " ++ (file_word file ++ codes "\n")))
 
--- ---- words after a space
+-- ---- a word, a count or a whole number after a space
 
-abbrev pub spaced : List ℕ → List ℕ
-spaced word = codes " " ++ word
+abbrev pub word_part : List ℕ → List ℕ
+word_part word = codes " " ++ word
 
-abbrev pub counted : ℕ → List ℕ
-counted n = spaced (decimal n)
+abbrev pub count_part : ℕ → List ℕ
+count_part n = word_part (decimal n)
 
-abbrev pub wholly : ℤ → List ℕ
-wholly z = spaced (signed_decimal z)
+abbrev pub whole_part : ℤ → List ℕ
+whole_part z = word_part (signed_decimal z)
 
 -- ---- the plant
 
 -- a fault of a key: its kind, and the key's name
 abbrev pub key_line : List ℕ → List ℕ → List ℕ
-key_line what key = what ++ (spaced key ++ codes "\n")
+key_line what key = what ++ (word_part key ++ codes "\n")
 
 -- a case: its mask of lost groups, and the first of its conditions that fails
 unfoldable pub case_line : ℕ → CaseFault → List ℕ
 case_line lost (case.CornerOver thruster need limit) =
-    codes "fault plant corner" ++ (counted lost ++ (counted thruster
-    ++ (wholly need ++ (wholly limit ++ codes "\n"))))
+    codes "fault plant corner" ++ (count_part lost ++ (count_part thruster
+    ++ (whole_part need ++ (whole_part limit ++ codes "\n"))))
 case_line lost (case.OffDemand axis column error) =
-    codes "fault plant demand" ++ (counted lost ++ (counted axis
-    ++ (counted column ++ (wholly error ++ codes "\n"))))
+    codes "fault plant demand" ++ (count_part lost ++ (count_part axis
+    ++ (count_part column ++ (whole_part error ++ codes "\n"))))
 
 unfoldable pub plant_line : PlantRefusal → List ℕ
 plant_line plant.Toml = codes "fault plant toml\n"
@@ -67,14 +67,14 @@ plant_line (plant.Case refusal) = case_line refusal.lost refusal.fault
 
 -- squares that don't show a matrix: which, the first row that is short, and by how much
 abbrev pub short_line : List ℕ → ℕ → ℤ → List ℕ
-short_line which row short = which ++ (counted row ++ (wholly short ++ codes "\n"))
+short_line which row short = which ++ (count_part row ++ (whole_part short ++ codes "\n"))
 
 -- the matrix of two numbers, or of one
 abbrev pub of_two : List ℕ → ℕ → ℕ → List ℕ
-of_two what first second = what ++ (counted first ++ counted second)
+of_two what first second = what ++ (count_part first ++ count_part second)
 
 abbrev pub of_one : List ℕ → ℕ → List ℕ
-of_one what first = what ++ counted first
+of_one what first = what ++ count_part first
 
 unfoldable pub condition_line : CertFault → List ℕ
 condition_line (cert.Range key) = key_line (codes "fault gains range") key.bytes

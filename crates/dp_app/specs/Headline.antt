@@ -10,16 +10,16 @@ use Rattle.dp_machine.specs.Run.{own_setpoints}
 use Rattle.dp_report.specs.declared.block.Block.{Block}
 use Rattle.dp_script.specs.declared.timed_act.TimedAct.{TimedAct}
 use Rattle.dp_app.specs.declared.fault.Fault.{Fault}
-use Rattle.dp_app.specs.Acting.{played}
+use Rattle.dp_app.specs.Acting.{play_events}
 use Rattle.dp_app.specs.Blocks.{blocks}
-use Rattle.dp_app.specs.Outcome.{Task, to_check, to_replay}
+use Rattle.dp_app.specs.Outcome.{Task, to_check, to_make, to_replay, to_trial}
 
 -- each fresh force in the block of cycle n is that of the reference run, one computer alone over
 -- the frames up to n, where at most one
 -- computer is faulty in any cycle up to n
 abbrev pub FreshForcesAreReference : Plant → List TimedAct → List Frame → List Block → Type 0
 FreshForcesAreReference p script fs bs = (n k : ℕ) (b : Block) (f : ℤ)
-    → AtMostOneFaulty (history p (played p script (take (n + 1) fs) []))
+    → AtMostOneFaulty (history p (play_events p script (take (n + 1) fs) []))
     → slice_get bs n ≡ Some b → slice_get b.ballots.items k ≡ Some (Fresh f)
     → force_of p (own_setpoints p) (take (n + 1) fs) n k ≡ Some f
 
@@ -27,5 +27,8 @@ FreshForcesAreReference p script fs bs = (n k : ℕ) (b : Block) (f : ℤ)
 abbrev pub TellsReferenceForces : Result Task Fault → Type 0
 TellsReferenceForces (Ok (to_replay x)) = FreshForcesAreReference x.plant x.script x.frames
     (blocks x.plant x.script x.frames [])
+TellsReferenceForces (Ok (to_trial x)) = FreshForcesAreReference x.plant x.script x.frames
+    (blocks x.plant x.script x.frames [])
 TellsReferenceForces (Ok (to_check p)) = Unit {0}
+TellsReferenceForces (Ok (to_make number)) = Unit {0}
 TellsReferenceForces (Err fault) = Unit {0}

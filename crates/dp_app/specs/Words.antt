@@ -1,6 +1,7 @@
 -- The commands, and the files that each names.
-use Rattle.std.specs.Prelude.{◌≡◌, ℕ, List, [], ◌∷◌, Option, Some, None, if◌then◌else◌, option_and_then, codes, Result, Ok, Err}
+use Rattle.std.specs.Prelude.{◌≡◌, ℕ, List, [], ◌∷◌, Option, Some, None, if◌then◌else◌, nat_le, option_and_then, option_map, codes, Result, Ok, Err}
 use Rattle.std.specs.Str.{bytes_eq}
+use Rattle.dp_text.specs.Numbers.{decimal_of}
 use Rattle.dp_app.specs.CommandLine.{read_words}
 use Rattle.dp_app.specs.declared.command_line.WordsFault.{WordsFault}
 use Rattle.dp_app.specs.declared.command_line.WordsFault.TheVariants as faults
@@ -9,14 +10,30 @@ use Rattle.dp_app.specs.declared.words.Command.TheVariants as shown
 use Rattle.dp_app.specs.declared.fault.File.{File}
 use Rattle.dp_app.specs.declared.fault.File.TheVariants.{Plant, Script, Record}
 
--- a command, with the names of its files: `replay PLANT RECORD SCRIPT`, `check PLANT`
+-- a command, with the names of its files: `replay PLANT RECORD SCRIPT`, `check PLANT`, `make NUMBER`,
+-- `trial PLANT NUMBER`
 pub data Command : Type 0 where
   replay : List ℕ → List ℕ → List ℕ → Command
   check : List ℕ → Command
+  make : ℕ → Command
+  trial : List ℕ → ℕ → Command
 
--- the command of a first word with one other, and with three
+-- the number of a record: 1 to 10 decimal digits, and at most 2^32 - 1
+abbrev pub below_limit : ℕ → Option ℕ
+below_limit n = if nat_le n 4294967295 then Some n else None
+
+unfoldable pub record_number : List ℕ → Option ℕ
+record_number word = option_and_then below_limit (decimal_of 10 word)
+
+-- the command of a first word with one other, with two, and with three
 abbrev pub with_one : List ℕ → List ℕ → Option Command
-with_one verb plant = if bytes_eq verb (codes "check") then Some (check plant) else None
+with_one verb word =
+    if bytes_eq verb (codes "check") then Some (check word)
+    else (if bytes_eq verb (codes "make") then option_map make (record_number word) else None)
+
+abbrev pub with_two : List ℕ → List ℕ → List ℕ → Option Command
+with_two verb plant word =
+    if bytes_eq verb (codes "trial") then option_map (trial plant) (record_number word) else None
 
 abbrev pub with_three : List ℕ → List ℕ → List ℕ → List ℕ → Option Command
 with_three verb plant record_name script =
@@ -27,7 +44,7 @@ unfoldable pub command_by : List (List ℕ) → Option Command
 command_by [] = None
 command_by (verb ∷ []) = None
 command_by (verb ∷ first ∷ []) = with_one verb first
-command_by (verb ∷ first ∷ second ∷ []) = None
+command_by (verb ∷ first ∷ second ∷ []) = with_two verb first second
 command_by (verb ∷ first ∷ second ∷ third ∷ []) = with_three verb first second third
 command_by (verb ∷ first ∷ second ∷ third ∷ fourth ∷ words) = None
 
@@ -40,19 +57,23 @@ pub record FileNamed : Type 0 where
   pub file : File
   pub name : List ℕ
 
--- the file of a command's plant
+-- a command's plant, its script and its record, by their names
 abbrev pub plant_file : List ℕ → FileNamed
 plant_file name = record { file = Plant; name = name }
 
--- the files that a command reads, in this order
-abbrev pub replay_files : List ℕ → List ℕ → List FileNamed
-replay_files record_name script =
-    record { file = Script; name = script }
-    ∷ record { file = Record; name = record_name } ∷ []
+abbrev pub script_file : List ℕ → FileNamed
+script_file name = record { file = Script; name = name }
 
+abbrev pub record_file : List ℕ → FileNamed
+record_file name = record { file = Record; name = name }
+
+-- the files that a command reads, in this order
 abbrev pub files_of : Command → List FileNamed
 files_of (check plant) = plant_file plant ∷ []
-files_of (replay plant record_name script) = plant_file plant ∷ replay_files record_name script
+files_of (make number) = []
+files_of (trial plant number) = plant_file plant ∷ []
+files_of (replay plant record_name script) =
+    plant_file plant ∷ script_file script ∷ record_file record_name ∷ []
 
 -- the files that the words have read, in this order; none where they are no command
 abbrev pub files_read : Option Command → List FileNamed
@@ -63,6 +84,8 @@ files_read None = []
 abbrev pub shown_command : Shown → Command
 shown_command (shown.Replay plant record_name script) = replay plant.now record_name.now script.now
 shown_command (shown.Check plant) = check plant.now
+shown_command (shown.Make number) = make number
+shown_command (shown.Trial plant number) = trial plant.now number
 
 -- what a function answered is the words' command, unless memory ran out
 abbrev pub GivesCommand : Result Shown WordsFault → Option Command → Type 0

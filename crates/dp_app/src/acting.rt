@@ -3,7 +3,7 @@ ghost use Rattle.std.specs.Prelude.{◌≡◌, ◌<◌, ◌≤◌, List};
 ghost use Rattle.dp_core.specs.declared.event.Event.{Event};
 ghost use Rattle.dp_core.specs.Represents.{Represents};
 ghost use Rattle.dp_script.specs.{IsWithin, acts_at};
-ghost use Rattle.dp_app.specs.{acted, all_acted, ordered, voters};
+ghost use Rattle.dp_app.specs.{act_events, events_of_acts, order_events, voters};
 
 use dp_core::World;
 use dp_plant::{Place, Plant};
@@ -13,7 +13,7 @@ use dp_script::{Act, Script};
 pub fn perform_all(world: &mut World, plant: &Plant, script: &Script, cycle: u64)
     requires { world.old.plant ≡ plant.now }
     ensures represents { (es : List Event) → Represents es world.old
-        → Represents (all_acted plant.now cycle (acts_at cycle script.now) es) world.new }
+        → Represents (events_of_acts plant.now cycle (acts_at cycle script.now) es) world.new }
     ensures plant { world.new.plant ≡ plant.now }
 {
     for i in 0..script.len(cycle) {
@@ -22,12 +22,12 @@ pub fn perform_all(world: &mut World, plant: &Plant, script: &Script, cycle: u64
 }
 
 /// An act is done in this cycle; one on a voter that isn't there does nothing.
-#[tactic(auto, unfolding(crate::specs::Acting::acted))]
+#[tactic(auto, unfolding(crate::specs::Acting::act_events))]
 fn perform(world: &mut World, plant: &Plant, cycle: u64, act: Act)
     requires plant { world.old.plant ≡ plant.now }
     requires within { IsWithin act }
     ensures represents { (es : List Event) → Represents es world.old
-        → Represents (acted plant.now cycle act es) world.new }
+        → Represents (act_events plant.now cycle act es) world.new }
     ensures plant { world.new.plant ≡ plant.now }
 {
     match act {
@@ -60,7 +60,7 @@ fn order_all(world: &mut World, plant: &Plant, c: u8)
     requires computer { c < 3 }
     requires plant { world.old.plant ≡ plant.now }
     ensures represents { (es : List Event) → Represents es world.old
-        → Represents (ordered c (voters plant.now) es) world.new }
+        → Represents (order_events c (voters plant.now) es) world.new }
     ensures plant { world.new.plant ≡ plant.now }
 {
     for k in 0..voters_of(plant) {

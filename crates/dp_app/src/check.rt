@@ -1,5 +1,5 @@
 //! A check of a plant: how far a bad position reference can move each of its thrusters, case by case.
-ghost use Rattle.std.specs.Prelude.{◌≡◌, ◌≢◌, ◌++◌, ◌+◌, ◌≤◌, All, OnErr, OnOk, length};
+ghost use Rattle.std.specs.Prelude.{◌≡◌, ◌≢◌, ◌++◌, ◌+◌, ◌≤◌, [], All, OnErr, OnOk, length};
 ghost use Rattle.std.specs.Io.KnownBytes.{Appends};
 ghost use Rattle.arrayvec.specs.ArrayVec.{array_vec_len};
 ghost use Rattle.dp_cert.specs.{IsShareRow};
@@ -27,8 +27,8 @@ const CASE: usize = 2048;
 pub fn check<K: Sink>(plant: &AcceptedPlant, out: &mut K) -> Status
     requires { IsAcceptedPlant plant.now.plant plant.now.accepted }
     ensures status { IsOfInputs result → result ≡ Status.Ok }
-    ensures written { HasWritten NoReadFailed (check_text plant.now.plant) result (K.taken out.old)
-        (K.taken out.new) }
+    ensures written { HasWritten NoReadFailed [] (check_text plant.now.plant) result
+        (K.taken out.old) (K.taken out.new) }
     ensures announced { IsAnnounced result (K.taken out.old) (K.taken out.new) }
     ensures write { result ≡ Status.WriteFault → Rose (K.faults out.old) (K.faults out.new) }
     ensures read { (result ≢ Status.ReadFault) × (result ≢ Status.Usage) }

@@ -7,7 +7,7 @@ ghost use Rattle.dp_core.specs.Represents.{Represents};
 ghost use Rattle.dp_core.specs.Voting.{ballot};
 ghost use Rattle.dp_plant.specs.{IsFrameInRange};
 ghost use Rattle.dp_report.specs.{block_text};
-ghost use Rattle.dp_app.specs.{block_of, cycled, voted, voters};
+ghost use Rattle.dp_app.specs.{block_of, cycle_events, vote_events, voters};
 
 use crate::acting::{perform_all, voters_of};
 use arrayvec::ArrayVec;
@@ -28,15 +28,13 @@ pub fn cycle(
     requires within { IsFrameInRange plant.now.groups frame.now }
     requires plant { world.old.plant ≡ plant.now }
     ensures represents { (es : List Event) → Represents es world.old
-        → Represents (cycled plant.now script.now frame.now es) world.new }
+        → Represents (cycle_events plant.now script.now frame.now es) world.new }
     ensures block { (es : List Event) → Represents es world.old
         → into.new.items ≡ block_text (block_of plant.now frame.now.cycle
-        (cycled plant.now script.now frame.now es)) }
+        (cycle_events plant.now script.now frame.now es)) }
     ensures plant { world.new.plant ≡ plant.now }
 {
-    world.wire(frame);
-    perform_all(world, plant, script, frame.cycle);
-    let ballots = vote_all(world, plant);
+    let ballots = play_votes(world, plant, script, frame);
     let block = Block {
         cycle: frame.cycle,
         modes: world.modes(),
@@ -47,13 +45,36 @@ pub fn cycle(
     write_block(&block, into);
 }
 
+/// A cycle without its text: its frame is heard by all computers, the script's acts of it are done, and each voter votes.
+pub fn play_votes(
+    world: &mut World,
+    plant: &Plant,
+    script: &Script,
+    frame: &Frame,
+) -> ArrayVec<Ballot, 12>
+    requires next { frame.now.cycle ≡ world.old.cycles_begun }
+    requires within { IsFrameInRange plant.now.groups frame.now }
+    requires plant { world.old.plant ≡ plant.now }
+    ensures represents { (es : List Event) → Represents es world.old
+        → Represents (cycle_events plant.now script.now frame.now es) world.new }
+    ensures ballots { (es : List Event) → Represents es world.old
+        → result.items ≡ map (λ k. ballot k (history plant.now
+        (cycle_events plant.now script.now frame.now es))) (range_with_len 0 (voters plant.now)) }
+    ensures count { length result.items ≡ voters plant.now }
+    ensures plant { world.new.plant ≡ plant.now }
+{
+    world.wire(frame);
+    perform_all(world, plant, script, frame.cycle);
+    vote_all(world, plant)
+}
+
 /// The ballots of all voters in this cycle.
 fn vote_all(world: &mut World, plant: &Plant) -> ArrayVec<Ballot, 12>
     requires { world.old.plant ≡ plant.now }
     ensures represents { (es : List Event) → Represents es world.old
-        → Represents (voted (voters plant.now) es) world.new }
+        → Represents (vote_events (voters plant.now) es) world.new }
     ensures ballots { (es : List Event) → Represents es world.old
-        → result.items ≡ map (λ k. ballot k (history plant.now (voted (voters plant.now) es)))
+        → result.items ≡ map (λ k. ballot k (history plant.now (vote_events (voters plant.now) es)))
         (range_with_len 0 (voters plant.now)) }
     ensures count { length result.items ≡ voters plant.now }
     ensures plant { world.new.plant ≡ plant.now }

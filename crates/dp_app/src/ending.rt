@@ -1,5 +1,5 @@
 //! How a run ends: its last line, and the status that goes with it.
-ghost use Rattle.std.specs.Prelude.{◌≡◌, ◌≢◌, ◌⊎◌, ◌≤◌, ◌++◌, ℕ, List, Option};
+ghost use Rattle.std.specs.Prelude.{◌≡◌, ◌≢◌, ◌⊎◌, ◌≤◌, ◌++◌, [], ℕ, List, Option};
 ghost use Rattle.std.specs.Io.KnownBytes.{Appends};
 ghost use Rattle.dp_shell.specs.{AppendsCut, Rose};
 ghost use Rattle.dp_app.specs.{HasWritten, IsAnnounced, IsOfInputs, IsOfRecord, LineEnds, NoReadFailed, end_line, fault_line, fault_status, last_line, last_status};
@@ -16,7 +16,8 @@ pub fn finish<K: Sink>(out: &mut K, fault: Option<Fault>, count: u64) -> Status
     ensures status { IsOfInputs result → result ≡ last_status fault }
     ensures written { (start : Option (List ℕ)) (text : List ℕ)
         → Appends start (K.taken out.old) text
-        → HasWritten NoReadFailed (text ++ last_line count fault) result start (K.taken out.new) }
+        → HasWritten NoReadFailed [] (text ++ last_line count fault) result start
+        (K.taken out.new) }
     ensures announced { (start : Option (List ℕ)) (text : List ℕ)
         → Appends start (K.taken out.old) text
         → IsAnnounced result start (K.taken out.new) }
@@ -25,20 +26,20 @@ pub fn finish<K: Sink>(out: &mut K, fault: Option<Fault>, count: u64) -> Status
 {
     match fault {
         Some(fault) => announce(out, fault),
-        None => write_end(out, count),
+        None => write_last(out, &end_line(count)),
     }
 }
 
-/// Writes the number of cycles or cases.
-fn write_end<K: Sink>(out: &mut K, count: u64) -> Status
+/// Writes the last of an output's text.
+pub fn write_last<K: Sink>(out: &mut K, last: &[u8]) -> Status
     ensures answers { (result ≡ Status.Ok) ⊎ (result ≡ Status.WriteFault)
         ⊎ (result ≡ Status.Memory) }
     ensures written { (start : Option (List ℕ)) (text : List ℕ)
         → Appends start (K.taken out.old) text
-        → HasWritten NoReadFailed (text ++ end_line count) result start (K.taken out.new) }
+        → HasWritten NoReadFailed [] (text ++ last.now) result start (K.taken out.new) }
     ensures write { result ≡ Status.WriteFault → Rose (K.faults out.old) (K.faults out.new) }
 {
-    match write_all(out, &end_line(count)) {
+    match write_all(out, last) {
         Ok(()) => Status::Ok,
         Err(trouble) => stop(out, trouble),
     }
@@ -49,7 +50,7 @@ pub fn stop<K: Sink>(out: &mut K, trouble: Trouble) -> Status
     ensures answers { (result ≡ Status.WriteFault) ⊎ (result ≡ Status.Memory) }
     ensures written { (start : Option (List ℕ)) (text : List ℕ)
         → AppendsCut start (K.taken out.old) text
-        → HasWritten NoReadFailed text result start (K.taken out.new) }
+        → HasWritten NoReadFailed [] text result start (K.taken out.new) }
     ensures write { result ≡ Status.WriteFault
         → (trouble ≡ Trouble.Failed) ⊎ Rose (K.faults out.old) (K.faults out.new) }
     ensures later { K.faults out.old ≤ K.faults out.new }

@@ -1,4 +1,4 @@
-//! The bytes of a record are fed to its reader, and what it answers is played.
+//! A record's text is fed to its reader, and what it answers is played.
 ghost use Rattle.std.specs.Prelude.{◌≡◌, ◌<◌, ◌≤◌, ◌+◌, ◌^◌, ◌∷◌, ◌++◌, [], List, ℕ, IfOk, OnOk, OnErr, None, false, length};
 ghost use Rattle.dp_shell.specs.{HasWriteCause};
 ghost use Rattle.dp_frame.specs.{IsOpen, all_lines, answer_to, ended_lines, first_refusal, frames_so_far, given, is_closed, record_frames};
@@ -51,52 +51,16 @@ pub fn play_text<K: Sink>(
     ensures playing { IsPlaying player.new }
     ensures plant { player.new.plant ≡ player.old.plant }
 {
-    for byte in text {
-        let fault = play_byte(player, out, lines, *byte)?;
+    let mut done = 0;
+    while done < text.len() {
+        let fed = lines.feed_piece(&text[done..]);
+        done += fed.taken;
+        let fault = player.play_feed(out, &fed.feed)?;
         if fault.is_some() {
             return Ok(fault);
         }
     }
     Ok(None)
-}
-
-/// Feeds a byte of a record, plays the cycles that come to their end with it, and answers the fault that it brings, if any.
-///
-/// Most bytes bring nothing, and are done with at once.
-fn play_byte<K: Sink>(
-    player: &mut Player,
-    out: &mut K,
-    lines: &mut Lines,
-    byte: u8,
-) -> Result<Option<Fault>, Trouble>
-    requires playing { IsPlaying player.old }
-    requires next { lines.old.progress.kept.cycle ≡ player.old.count }
-    requires groups { lines.old.progress.settings.groups ≡ player.old.plant.groups }
-    requires open { IsOpen lines.old }
-    requires few { lines.old.bytes < 2 ^ 40 }
-    ensures fault { (text : List ℕ) → Represents lines.old text
-        → IfOk result (λ fault. fault ≡ fault_in
-        (answer_to (lines.old.progress.settings) text byte)) }
-    ensures ok { (text : List ℕ) → Represents lines.old text → (fs : List Frame)
-        → OnOk result (Shows player.old player.new (K.taken out.old) (K.taken out.new)
-        fs (fs ++ given (answer_to (lines.old.progress.settings) text byte))) }
-    ensures err { (text : List ℕ) → Represents lines.old text → (fs : List Frame)
-        → OnErr result (StopsShowing player.old (K.taken out.old) (K.taken out.new)
-        fs (fs ++ given (answer_to (lines.old.progress.settings) text byte))) }
-    ensures cause { HasWriteCause (K.faults out.old) (K.faults out.new) result }
-    ensures represents { (text : List ℕ) → Represents lines.old text
-        → Represents lines.new (text ++ byte ∷ []) }
-    ensures next { OnOk result (lines.new.progress.kept.cycle ≡ player.new.count) }
-    ensures bytes { lines.new.bytes ≡ lines.old.bytes + 1 }
-    ensures open_still { IsOpen lines.new }
-    ensures settings { lines.new.progress.settings ≡ lines.old.progress.settings }
-    ensures playing { IsPlaying player.new }
-    ensures plant { player.new.plant ≡ player.old.plant }
-{
-    match lines.feed(byte) {
-        Feed::More => Ok(None),
-        feed => player.play_feed(out, &feed),
-    }
 }
 
 /// Plays what is left at the end of a record, and answers the fault of its last line, if it has one.

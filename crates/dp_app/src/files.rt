@@ -14,7 +14,7 @@ const PLANT_LIMIT: usize = 1 << 20;
 const SCRIPT_LIMIT: usize = 1 << 24;
 
 /// The most bytes of a record.
-const RECORD_LIMIT: usize = 1 << 36;
+pub const RECORD_LIMIT: u64 = 1 << 36;
 
 /// Reads a file up to its limit.
 pub fn read_part<F: Shelf>(
@@ -50,6 +50,6 @@ fn limit_of(file: File) -> usize
     match file {
         File::Plant => PLANT_LIMIT,
         File::Script => SCRIPT_LIMIT,
-        File::Record => RECORD_LIMIT,
+        File::Record => RECORD_LIMIT as usize,
     }
 }

@@ -1,11 +1,11 @@
-//! What a command is given: its plant, and for a replay its script and its record.
-ghost use Rattle.std.specs.Prelude.{◌≡◌, ◌≢◌, ◌⊎◌, ◌≤◌, [], ◌∷◌, Some, IfErr, IfOk, IfSome, IsErrAnd, IsErrOf, IsNone, None, Ok, Err};
-ghost use Rattle.dp_shell.specs.{texts_of, text_named};
+//! What a command is given: its plant, and for a replay its script. The record is read while it is played.
+ghost use Rattle.std.specs.Prelude.{◌≡◌, ◌≢◌, ◌⊎◌, [], true, false, is_none, Some, IfErr, IfOk, IfSome, IsErrAnd, IsErrOf, IsNone, None, Err};
+ghost use Rattle.dp_shell.specs.{NoneFalls, OthersStay, texts_of, text_named};
 ghost use Rattle.dp_core.specs.Represents.{Represents};
 ghost use Rattle.dp_machine.specs.{IsAcceptedPlant};
 ghost use Rattle.dp_app.specs.declared.fault.File.{File as FileKind};
-ghost use Rattle.dp_app.specs.{Asks, HasPlayed, IsOfInputs, IsReady, IsReadyToPlay, OthersKeep, ReadFailed, fault_status};
-ghost use Rattle.dp_app.specs.{check, command_in, files_of, files_read, play_given, replay, replay_files, task_given, to_replay, with_script};
+ghost use Rattle.dp_app.specs.{Asks, HasPlayed, IsEmptyTally, IsOfInputs, IsReady, IsScriptRefusal, LeavesRecord, OthersKeep, PlaysScript, ReadFailed, RoseAt};
+ghost use Rattle.dp_app.specs.{task_of, check, trial, whole, command_in, fault_status, files_of, files_read, replay};
 ghost use Rattle.dp_app.specs.{prefix_read, script_fault_of, script_of, shown_command};
 
 use crate::command_line::WordsFault;
@@ -13,6 +13,7 @@ use crate::fault::{Fault, File};
 use crate::files::read_part;
 use crate::plant_file::{AcceptedPlant, read_plant};
 use crate::player::Player;
+use crate::tally::Tally;
 use crate::words::{Command, command_in};
 use arrayvec::ArrayVec;
 use dp_core::World;
@@ -21,25 +22,42 @@ use dp_script::{Script, ScriptFault};
 use dp_shell::{FilePart, Shelf};
 use std::alloc::Global;
 
-/// What a command asks for, once its files are read.
+/// What a command asks for, once the files are read that are read whole.
 #[derive(Drop)]
-pub enum Task {
-    Replay(Inputs),
+pub enum Task<'a> {
+    Replay(Inputs<'a>),
     Check(AcceptedPlant),
+    Make { number: u32 },
+    Trial(Trial),
 }
 
-/// All that a replay is given.
+/// What a replay is given: its player, and the name of the record.
 #[derive(Drop)]
-pub struct Inputs {
+pub struct Inputs<'a> {
     pub player: Player,
-    pub record: FilePart,
+    pub record: &'a str,
 }
 
-/// Reads all that the words name, or says why it is refused.
-pub fn gather<F: Shelf>(alloc: Global, words: &[&str], shelf: &mut F) -> Result<Task, Fault>
+/// What a trial is given: its player, which counts ballots, and the number of its record.
+#[derive(Drop)]
+pub struct Trial {
+    pub player: Player,
+    pub number: u32,
+}
+
+/// Reads what the words name but a record, or says why it is refused.
+pub fn gather<'a, F: Shelf>(
+    alloc: Global,
+    words: &'a [&'a str],
+    shelf: &mut F,
+) -> Result<Task<'a>, Fault>
     ensures ok { IfOk result (λ t. IfSome (F.files shelf.old) (λ files.
-        Asks (command_in (texts_of words.now)) files (Ok (task_given t)))) }
+        Asks (command_in (texts_of words.now)) files (task_of t files))) }
     ensures ready { IfOk result IsReady }
+
+    // Of a replay the record is left to be read, after the plant and the script had passed.
+    ensures left { IfOk result (LeavesRecord (F.files shelf.old)
+        (command_in (texts_of words.now))) }
 
     // A refusal that words and files give is theirs.
     ensures err { IfErr result (λ fault. IsOfInputs (fault_status fault)
@@ -56,8 +74,10 @@ pub fn gather<F: Shelf>(alloc: Global, words: &[&str], shelf: &mut F) -> Result<
         (files_read (command_in (texts_of words.now))) file }
 
     ensures files { F.files shelf.new ≡ F.files shelf.old }
+    ensures apart { F.apart shelf.new ≡ F.apart shelf.old }
     ensures others { OthersKeep (F.apart shelf.old) (files_read (command_in (texts_of words.now)))
         (F.faults shelf.old) (F.faults shelf.new) }
+    ensures none_falls { NoneFalls (F.faults shelf.old) (F.faults shelf.new) }
 {
     match command_in(alloc, words) {
         Ok(command) => gather_files(alloc, shelf, &command),
@@ -67,10 +87,16 @@ pub fn gather<F: Shelf>(alloc: Global, words: &[&str], shelf: &mut F) -> Result<
 }
 
 /// Reads the files of a command, the plant first.
-fn gather_files<F: Shelf>(alloc: Global, shelf: &mut F, command: &Command) -> Result<Task, Fault>
+fn gather_files<'a, F: Shelf>(
+    alloc: Global,
+    shelf: &mut F,
+    command: &Command<'a>,
+) -> Result<Task<'a>, Fault>
     ensures ok { IfOk result (λ t. IfSome (F.files shelf.old) (λ files.
-        Asks (Some (shown_command command.now)) files (Ok (task_given t)))) }
+        Asks (Some (shown_command command.now)) files (task_of t files))) }
     ensures ready { IfOk result IsReady }
+    ensures left { IfOk result (LeavesRecord (F.files shelf.old)
+        (Some (shown_command command.now))) }
     ensures err { IfErr result (λ fault. IsOfInputs (fault_status fault)
         → IfSome (F.files shelf.old) (λ files.
         Asks (Some (shown_command command.now)) files (Err fault))) }
@@ -79,11 +105,15 @@ fn gather_files<F: Shelf>(alloc: Global, shelf: &mut F, command: &Command) -> Re
         → ReadFailed (F.files shelf.old)
         (F.faults shelf.old) (F.faults shelf.new) (files_of (shown_command command.now)) file }
     ensures files { F.files shelf.new ≡ F.files shelf.old }
+    ensures apart { F.apart shelf.new ≡ F.apart shelf.old }
     ensures others { OthersKeep (F.apart shelf.old) (files_of (shown_command command.now))
         (F.faults shelf.old) (F.faults shelf.new) }
+    ensures none_falls { NoneFalls (F.faults shelf.old) (F.faults shelf.new) }
 {
     match *command {
         Command::Check { plant } => gather_check(alloc, shelf, plant),
+        Command::Make { number } => Ok(Task::Make { number }),
+        Command::Trial { plant, number } => gather_trial(alloc, shelf, plant, number),
         Command::Replay {
             plant,
             record,
@@ -93,10 +123,15 @@ fn gather_files<F: Shelf>(alloc: Global, shelf: &mut F, command: &Command) -> Re
 }
 
 /// Reads the plant of a check.
-fn gather_check<F: Shelf>(alloc: Global, shelf: &mut F, plant_name: &str) -> Result<Task, Fault>
+fn gather_check<'a, F: Shelf>(
+    alloc: Global,
+    shelf: &mut F,
+    plant_name: &str,
+) -> Result<Task<'a>, Fault>
     ensures ok { IfOk result (λ t. IfSome (F.files shelf.old) (λ files.
-        Asks (Some (check plant_name.now)) files (Ok (task_given t)))) }
+        Asks (Some (check plant_name.now)) files (task_of t files))) }
     ensures ready { IfOk result IsReady }
+    ensures left { IfOk result (LeavesRecord (F.files shelf.old) (Some (check plant_name.now))) }
     ensures err { IfErr result (λ fault. IsOfInputs (fault_status fault)
         → IfSome (F.files shelf.old) (λ files.
         Asks (Some (check plant_name.now)) files (Err fault))) }
@@ -105,8 +140,10 @@ fn gather_check<F: Shelf>(alloc: Global, shelf: &mut F, plant_name: &str) -> Res
         → ReadFailed (F.files shelf.old)
         (F.faults shelf.old) (F.faults shelf.new) (files_of (check plant_name.now)) file }
     ensures files { F.files shelf.new ≡ F.files shelf.old }
+    ensures apart { F.apart shelf.new ≡ F.apart shelf.old }
     ensures others { OthersKeep (F.apart shelf.old) (files_of (check plant_name.now))
         (F.faults shelf.old) (F.faults shelf.new) }
+    ensures none_falls { NoneFalls (F.faults shelf.old) (F.faults shelf.new) }
 {
     match read_plant(alloc, shelf, plant_name) {
         Ok(plant) => Ok(Task::Check(plant)),
@@ -114,18 +151,68 @@ fn gather_check<F: Shelf>(alloc: Global, shelf: &mut F, plant_name: &str) -> Res
     }
 }
 
-/// Reads the plant of a replay, then its script and its record.
-fn gather_replay<F: Shelf>(
+/// Reads the plant of a trial, and makes what plays its record with an empty script.
+fn gather_trial<'a, F: Shelf>(
     alloc: Global,
     shelf: &mut F,
     plant_name: &str,
-    record_name: &str,
+    number: u32,
+) -> Result<Task<'a>, Fault>
+    ensures ok { IfOk result (λ t. IfSome (F.files shelf.old) (λ files.
+        Asks (Some (trial plant_name.now number)) files (task_of t files))) }
+    ensures ready { IfOk result IsReady }
+    ensures left { IfOk result (LeavesRecord (F.files shelf.old)
+        (Some (trial plant_name.now number))) }
+    ensures err { IfErr result (λ fault. IsOfInputs (fault_status fault)
+        → IfSome (F.files shelf.old) (λ files.
+        Asks (Some (trial plant_name.now number)) files (Err fault))) }
+    ensures command { IfErr result (λ fault. fault ≢ Fault.Usage) }
+    ensures read { (file : FileKind) → IsErrOf result (Fault.Read file)
+        → ReadFailed (F.files shelf.old)
+        (F.faults shelf.old) (F.faults shelf.new) (files_of (trial plant_name.now number)) file }
+    ensures files { F.files shelf.new ≡ F.files shelf.old }
+    ensures apart { F.apart shelf.new ≡ F.apart shelf.old }
+    ensures others { OthersKeep (F.apart shelf.old) (files_of (trial plant_name.now number))
+        (F.faults shelf.old) (F.faults shelf.new) }
+    ensures none_falls { NoneFalls (F.faults shelf.old) (F.faults shelf.new) }
+{
+    match read_plant(alloc, shelf, plant_name) {
+        Ok(plant) => match counting_player(alloc, plant) {
+            Ok(player) => Ok(Task::Trial(Trial { player, number })),
+            Err(fault) => Err(fault),
+        },
+        Err(fault) => Err(fault),
+    }
+}
+
+/// What plays with an empty script on a plant, and counts ballots.
+fn counting_player(alloc: Global, plant: AcceptedPlant) -> Result<Player, Fault>
+    requires { IsAcceptedPlant plant.plant plant.accepted }
+    ensures ready { IfOk result (λ x. HasPlayed x.plant (script_of (whole [])) false x []) }
+    ensures plant { IfOk result (λ x. x.plant ≡ plant.plant) }
+    ensures other { IfErr result (λ fault. fault ≡ Fault.Memory) }
+{
+    let Ok(script) = Script::of(alloc, b"") else {
+        return Err(Fault::Memory);
+    };
+    let world = world_of(alloc, &plant)?;
+    Ok(player_of(plant.plant, script, world, Some(Tally::empty())))
+}
+
+/// Reads the plant of a replay, then its script.
+fn gather_replay<'a, F: Shelf>(
+    alloc: Global,
+    shelf: &mut F,
+    plant_name: &str,
+    record_name: &'a str,
     script_name: &str,
-) -> Result<Task, Fault>
+) -> Result<Task<'a>, Fault>
     ensures ok { IfOk result (λ t. IfSome (F.files shelf.old) (λ files.
         Asks (Some (replay plant_name.now record_name.now script_name.now)) files
-        (Ok (task_given t)))) }
+        (task_of t files))) }
     ensures ready { IfOk result IsReady }
+    ensures left { IfOk result (LeavesRecord (F.files shelf.old)
+        (Some (replay plant_name.now record_name.now script_name.now))) }
     ensures err { IfErr result (λ fault. IsOfInputs (fault_status fault)
         → IfSome (F.files shelf.old) (λ files.
         Asks (Some (replay plant_name.now record_name.now script_name.now)) files (Err fault))) }
@@ -135,54 +222,53 @@ fn gather_replay<F: Shelf>(
         (F.faults shelf.old) (F.faults shelf.new)
         (files_of (replay plant_name.now record_name.now script_name.now)) file }
     ensures files { F.files shelf.new ≡ F.files shelf.old }
+    ensures apart { F.apart shelf.new ≡ F.apart shelf.old }
     ensures others { OthersKeep (F.apart shelf.old)
         (files_of (replay plant_name.now record_name.now script_name.now))
         (F.faults shelf.old) (F.faults shelf.new) }
+    ensures none_falls { NoneFalls (F.faults shelf.old) (F.faults shelf.new) }
 {
     match read_plant(alloc, shelf, plant_name) {
-        Ok(plant) => match gather_on(alloc, shelf, plant, record_name, script_name) {
-            Ok(inputs) => Ok(Task::Replay(inputs)),
+        Ok(plant) => match read_player(alloc, shelf, plant, script_name) {
+            Ok(player) => Ok(Task::Replay(Inputs {
+                player,
+                record: record_name,
+            })),
             Err(fault) => Err(fault),
         },
         Err(fault) => Err(fault),
     }
 }
 
-/// Reads the script and the record of a replay on a plant, in this order.
-fn gather_on<F: Shelf>(
+/// Reads the script of a replay, and makes what plays it on a plant.
+fn read_player<F: Shelf>(
     alloc: Global,
     shelf: &mut F,
     plant: AcceptedPlant,
-    record_name: &str,
     script_name: &str,
-) -> Result<Inputs, Fault>
+) -> Result<Player, Fault>
     requires { IsAcceptedPlant plant.plant plant.accepted }
-    ensures ok { IfOk result (λ i. IfSome (F.files shelf.old) (λ files.
-        with_script plant.plant (text_named files script_name.now)
-        (text_named files record_name.now)
-        ≡ Ok (to_replay (play_given i)))) }
-    ensures ready { IfOk result IsReadyToPlay }
+    ensures ok { IfOk result (λ x. IfSome (F.files shelf.old) (λ files.
+        PlaysScript plant.plant (text_named files script_name.now) x)) }
+    ensures ready { IfOk result (λ x. HasPlayed x.plant x.script true x []) }
     ensures err { IfErr result (λ fault. IsOfInputs (fault_status fault)
         → IfSome (F.files shelf.old) (λ files.
-        with_script plant.plant (text_named files script_name.now)
-        (text_named files record_name.now)
-        ≡ Err fault)) }
+        IsScriptRefusal (text_named files script_name.now) fault)) }
     ensures command { IfErr result (λ fault. fault ≢ Fault.Usage) }
     ensures read { (file : FileKind) → IsErrOf result (Fault.Read file)
-        → ReadFailed (F.files shelf.old)
-        (F.faults shelf.old) (F.faults shelf.new) (replay_files record_name.now script_name.now) file }
+        → file ≡ FileKind.Script }
+    ensures failed { IsErrOf result (Fault.Read FileKind.Script)
+        → RoseAt (F.faults shelf.old) (F.faults shelf.new) script_name.now }
     ensures files { F.files shelf.new ≡ F.files shelf.old }
-    ensures others { OthersKeep (F.apart shelf.old) (replay_files record_name.now script_name.now)
-        (F.faults shelf.old) (F.faults shelf.new) }
+    ensures apart { F.apart shelf.new ≡ F.apart shelf.old }
+    ensures others { OthersStay (F.apart shelf.old) script_name.now (F.faults shelf.old)
+        (F.faults shelf.new) }
+    ensures none_falls { NoneFalls (F.faults shelf.old) (F.faults shelf.new) }
 {
     let text = read_part(alloc, shelf, File::Script, script_name)?;
     let script = judge_script(alloc, &text)?;
     let world = world_of(alloc, &plant)?;
-    let player = player_of(plant.plant, script, world);
-    match read_part(alloc, shelf, File::Record, record_name) {
-        Ok(record) => Ok(Inputs { player, record }),
-        Err(fault) => Err(fault),
-    }
+    Ok(player_of(plant.plant, script, world, None))
 }
 
 /// The script of a text, unless its length or a line is refused.
@@ -217,9 +303,9 @@ fn world_of(alloc: Global, plant: &AcceptedPlant) -> Result<World, Fault>
 }
 
 /// A player that hasn't played yet.
-#[tactic(auto, using(crate::proofs::Plays::played_none))]
-fn player_of(plant: Plant, script: Script, world: World) -> Player
-    ensures played { world.plant ≡ plant → Represents [] world → HasPlayed plant script result [] }
+fn player_of(plant: Plant, script: Script, world: World, tally: Option<Tally>) -> Player
+    ensures played { world.plant ≡ plant → Represents [] world → IsEmptyTally tally
+        → HasPlayed plant script (is_none tally) result [] }
     ensures plant { result.plant ≡ plant }
     ensures script { result.script ≡ script }
 {
@@ -229,5 +315,6 @@ fn player_of(plant: Plant, script: Script, world: World) -> Player
         world,
         count: 0,
         block: ArrayVec::new(),
+        tally,
     }
 }

@@ -4,8 +4,9 @@
 //! All of it is [`run`], which is proved over whatever holds the files and takes the text; `main` makes the real ones and calls it.
 #![tactic(auto)]
 
-ghost use Rattle.std.specs.Prelude.{◌≡◌};
+ghost use Rattle.std.specs.Prelude.{◌≡◌, take};
 ghost use Rattle.std.specs.Process.{exit_status};
+ghost use Rattle.dp_shell.specs.{is_among, texts_of};
 ghost use Rattle.dp_app.specs.{code_of};
 
 mod acting;
@@ -19,6 +20,7 @@ mod files;
 mod inputs;
 mod laws;
 mod lines;
+mod making;
 mod plant_file;
 mod plant_lines;
 mod player;
@@ -26,16 +28,20 @@ mod program;
 mod refusals;
 mod replay;
 mod status;
+mod streaming;
+mod tally;
 #[cfg(test)]
 mod tests;
+mod trial;
 mod words;
 
 pub use cycle::cycle;
-use dp_shell::{FileShelf, StdSink};
+use dp_shell::{FileShelf, Shelf, StdSink};
 pub use program::run;
 pub use status::Status;
 use std::alloc::{AllocError, Global};
 use std::process::ExitCode;
+use std::rt::Files;
 use std::{env, io};
 
 fn main(rt: HostRuntime) -> ExitCode {
@@ -47,7 +53,7 @@ fn main(rt: HostRuntime) -> ExitCode {
     let Ok(words) = texts(rt.alloc(), &words) else {
         return exit_code(Status::Memory);
     };
-    let mut shelf = FileShelf::new(&rt, &words);
+    let mut shelf = shelf_of(&rt, &words);
     let mut out = StdSink::new(&rt);
     exit_code(run(rt.alloc(), &words, &mut shelf, &mut out))
 }
@@ -67,6 +73,14 @@ fn texts<'a>(alloc: Global, words: &'a [String]) -> Result<Vec<&'a str>, AllocEr
         texts.push(word.as_str())?;
     }
     Ok(texts)
+}
+
+/// The files of the machine. Failed reads are counted apart for each of the first eight words, so no other file's failure is taken for
+/// one of a command's files.
+fn shelf_of<'a, R: Files>(rt: &'a R, words: &'a [&'a str]) -> FileShelf<'a, R>
+    ensures { ⟦<FileShelf<'a, R> as Shelf>⟧.apart result ≡ is_among (take 8 (texts_of words.now)) }
+{
+    FileShelf::new(rt, words)
 }
 
 /// What the process ends with.

@@ -2,7 +2,7 @@
 ghost use Rattle.std.specs.Prelude.{◌≡◌, ◌++◌, ◌≤◌, ◌+◌, length, codes};
 ghost use Rattle.std.specs.Fmt.{decimal, signed_decimal};
 ghost use Rattle.arrayvec.specs.ArrayVec.{array_vec_len};
-ghost use Rattle.dp_app.specs.FaultLines.{case_line, condition_line, counted, gains_line, key_line, of_one, of_two, plant_line, short_line, spaced, wholly};
+ghost use Rattle.dp_app.specs.FaultLines.{case_line, condition_line, count_part, gains_line, key_line, of_one, of_two, plant_line, short_line, word_part, whole_part};
 
 use crate::fault::LINE;
 use crate::lines::fixed_line;
@@ -47,8 +47,8 @@ fn case_line(lost: u8, fault: CaseFault) -> ArrayVec<u8, LINE>
 
 /// The line of a case of which a corner asks too much of a thruster.
 fn corner_line(lost: u8, thruster: usize, need: i64, limit: i64) -> ArrayVec<u8, LINE>
-    ensures { result.items ≡ codes "fault plant corner" ++ (counted lost ++ (counted thruster
-        ++ (wholly need ++ (wholly limit ++ codes "\n")))) }
+    ensures { result.items ≡ codes "fault plant corner" ++ (count_part lost ++ (count_part thruster
+        ++ (whole_part need ++ (whole_part limit ++ codes "\n")))) }
 {
     let mut line = ArrayVec::new();
     append(&mut line, b"fault plant corner");
@@ -62,8 +62,8 @@ fn corner_line(lost: u8, thruster: usize, need: i64, limit: i64) -> ArrayVec<u8,
 
 /// The line of a case of which the thrusters don't give the demand.
 fn demand_line(lost: u8, axis: usize, column: usize, error: i128) -> ArrayVec<u8, LINE>
-    ensures { result.items ≡ codes "fault plant demand" ++ (counted lost ++ (counted axis
-        ++ (counted column ++ (wholly error ++ codes "\n")))) }
+    ensures { result.items ≡ codes "fault plant demand" ++ (count_part lost ++ (count_part axis
+        ++ (count_part column ++ (whole_part error ++ codes "\n")))) }
 {
     let mut line = ArrayVec::new();
     append(&mut line, b"fault plant demand");
@@ -184,7 +184,7 @@ fn of_two(what: &[u8], first: usize, second: usize) -> ArrayVec<u8, LINE>
 /// A number after a space.
 fn append_count(line: &mut ArrayVec<u8, LINE>, number: usize)
     requires { array_vec_len line.old + 21 ≤ LINE }
-    ensures text { line.new.items ≡ line.old.items ++ counted number }
+    ensures text { line.new.items ≡ line.old.items ++ count_part number }
     ensures len { array_vec_len line.new ≤ array_vec_len line.old + 21 }
 {
     append(line, b" ");
@@ -194,7 +194,7 @@ fn append_count(line: &mut ArrayVec<u8, LINE>, number: usize)
 /// A force after a space.
 fn append_force(line: &mut ArrayVec<u8, LINE>, force: i64)
     requires { array_vec_len line.old + 21 ≤ LINE }
-    ensures text { line.new.items ≡ line.old.items ++ wholly force }
+    ensures text { line.new.items ≡ line.old.items ++ whole_part force }
     ensures len { array_vec_len line.new ≤ array_vec_len line.old + 21 }
 {
     append(line, b" ");

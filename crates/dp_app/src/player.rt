@@ -1,5 +1,5 @@
 //! What plays a record: a plant, a script and a world, one cycle for each frame, and the block of each.
-ghost use Rattle.std.specs.Prelude.{◌≡◌, ◌+◌, ◌<◌, ◌^◌, ◌∷◌, [], ◌++◌, List, IfOk, OnErr, OnOk, length};
+ghost use Rattle.std.specs.Prelude.{◌≡◌, ◌+◌, ◌<◌, ◌^◌, ◌∷◌, [], ◌++◌, List, None, Option, Some, ℕ, IfOk, OnErr, OnOk, length};
 ghost use Rattle.dp_shell.specs.{HasWriteCause};
 ghost use Rattle.dp_frame.specs.{given};
 ghost use Rattle.dp_plant.specs.{IsFrameInRange};
@@ -7,8 +7,9 @@ ghost use Rattle.dp_plant.specs.declared.frames.Frame.{Frame};
 ghost use Rattle.dp_app.specs.ReaderAnswers.{IsNext, fault_in};
 ghost use Rattle.dp_app.specs.Playing.{IsPlaying, Shows, StopsShowing};
 
-use crate::cycle::cycle;
+use crate::cycle::{cycle, play_votes};
 use crate::fault::Fault;
+use crate::tally::Tally;
 use arrayvec::ArrayVec;
 use dp_core::World;
 use dp_frame::{Feed, empty_frame};
@@ -16,7 +17,8 @@ use dp_plant::{Frame, Plant};
 use dp_script::Script;
 use dp_shell::{Sink, Trouble, write_all};
 
-/// A plant and a script, the world that plays them, how many cycles it has played, and room for a block.
+/// A plant and a script, the world that plays them, how many cycles it has played, and room for a block. Where there is a tally, ballots
+/// are counted in it, and no block is written.
 #[derive(Drop)]
 pub struct Player {
     pub plant: Plant,
@@ -24,6 +26,7 @@ pub struct Player {
     pub world: World,
     pub count: u64,
     pub block: ArrayVec<u8, 4096>,
+    pub tally: Option<Tally>,
 }
 
 impl Player {
@@ -93,6 +96,31 @@ impl Player {
         ensures count { self.new.count ≡ self.old.count + 1 }
         ensures cause { HasWriteCause (K.faults out.old) (K.faults out.new) result }
     {
+        match self.tally {
+            None => self.write_frame(out, frame),
+            Some(tally) => {
+                self.count_frame(frame, tally);
+                Ok(())
+            }
+        }
+    }
+
+    /// Plays one frame, and writes its block.
+    fn write_frame<K: Sink>(&mut self, out: &mut K, frame: &Frame) -> Result<(), Trouble>
+        requires playing { IsPlaying self.old }
+        requires next { frame.now.cycle ≡ self.old.count }
+        requires within { IsFrameInRange self.old.plant.groups frame.now }
+        requires writes { self.old.tally ≡ None }
+        ensures ok { (fs : List Frame) → OnOk result
+            (Shows self.old self.new (K.taken out.old) (K.taken out.new) fs
+            (fs ++ frame.now ∷ [])) }
+        ensures err { (fs : List Frame) → OnErr result
+            (StopsShowing self.old (K.taken out.old) (K.taken out.new) fs (fs ++ frame.now ∷ [])) }
+        ensures playing { IsPlaying self.new }
+        ensures plant { self.new.plant ≡ self.old.plant }
+        ensures count { self.new.count ≡ self.old.count + 1 }
+        ensures cause { HasWriteCause (K.faults out.old) (K.faults out.new) result }
+    {
         cycle(
             &mut self.world,
             &self.plant,
@@ -102,5 +130,22 @@ impl Player {
         );
         self.count += 1;
         write_all(out, &self.block)
+    }
+
+    /// Plays one frame, and counts its ballots besides those of this tally.
+    fn count_frame(&mut self, frame: &Frame, tally: Tally)
+        requires playing { IsPlaying self.old }
+        requires next { frame.now.cycle ≡ self.old.count }
+        requires within { IsFrameInRange self.old.plant.groups frame.now }
+        requires counts { self.old.tally ≡ Some tally }
+        ensures shows { (taken : Option (List ℕ)) (fs : List Frame)
+            → Shows self.old self.new taken taken fs (fs ++ frame.now ∷ []) }
+        ensures playing { IsPlaying self.new }
+        ensures plant { self.new.plant ≡ self.old.plant }
+        ensures count { self.new.count ≡ self.old.count + 1 }
+    {
+        let ballots = play_votes(&mut self.world, &self.plant, &self.script, frame);
+        self.count += 1;
+        self.tally = Some(tally.with(&ballots));
     }
 }

@@ -1,11 +1,9 @@
 //! The top call: all that the program does.
-ghost use Rattle.std.specs.Prelude.{◌≡◌, ◌≢◌, ◌⊎◌, IfSome, IsNone, Ok, Result};
-ghost use Rattle.std.specs.Io.KnownBytes.{Appends};
+ghost use Rattle.std.specs.Prelude.{◌≡◌, ◌⊎◌, IfSome, IsNone, Result};
 ghost use Rattle.dp_shell.specs.{Rose, texts_of};
-ghost use Rattle.dp_app.specs.{AnyRose, Asks, HasWritten, IsAnnounced, IsOfInputs, IsReady, NoReadFailed, OthersKeep, ReadFailed};
-ghost use Rattle.dp_app.specs.{Task as Asked, TellsReferenceForces, command_in, ended, fault_line, files_read, task_given};
+ghost use Rattle.dp_app.specs.{AnyRose, Asks, EndsAtRead, HasWritten, IsAnnounced, IsOfInputs, OthersKeep, ReadFailed};
+ghost use Rattle.dp_app.specs.{Task as Asked, TellsReferenceForces, blocks_in, command_in, files_read, outcome_of};
 ghost use Rattle.dp_app.specs.declared.fault.Fault.{Fault};
-ghost use Rattle.dp_app.specs.declared.fault.Fault.TheVariants.{Read};
 ghost use Rattle.dp_app.specs.declared.fault.File.{File};
 
 use crate::Status;
@@ -13,7 +11,9 @@ use crate::check::check;
 use crate::ending::announce;
 use crate::inputs::{Task, gather};
 use crate::laws::fresh_forces_are_reference;
+use crate::making::make;
 use crate::replay::replay;
+use crate::trial::trial;
 use dp_shell::{Shelf, Sink};
 use std::alloc::Global;
 
@@ -29,14 +29,14 @@ pub fn run<F: Shelf, K: Sink>(alloc: Global, words: &[&str], shelf: &mut F, out:
     // Where the shelf tells its files: a status that words and files give is theirs, whatever faults came.
     ensures status { IsOfInputs result → IfSome (F.files shelf.old) (λ files.
         (x : Result Asked Fault) → Asks (command_in (texts_of words.now)) files x
-        → result ≡ (ended x).status) }
+        → result ≡ (outcome_of x).status) }
 
     // And what was written, by the status: all of the outcome's text, or what a failure left of it.
     ensures written { IfSome (F.files shelf.old) (λ files.
         (x : Result Asked Fault) → Asks (command_in (texts_of words.now)) files x → HasWritten
         (ReadFailed (F.files shelf.old) (F.faults shelf.old) (F.faults shelf.new)
         (files_read (command_in (texts_of words.now))))
-        (ended x).text result (K.taken out.old) (K.taken out.new)) }
+        (blocks_in x) (outcome_of x).text result (K.taken out.old) (K.taken out.new)) }
 
     // Whatever the shelf tells, each status but these three is announced.
     ensures announced { IsAnnounced result (K.taken out.old) (K.taken out.new) }
@@ -52,11 +52,12 @@ pub fn run<F: Shelf, K: Sink>(alloc: Global, words: &[&str], shelf: &mut F, out:
         → (result ≡ Status.Usage) ⊎ (result ≡ Status.WriteFault) ⊎ (result ≡ Status.Memory) }
 
     // A fault of reading or writing is answered only where one was counted in this call: of the file that the line names, after all
-    // files before it had passed.
+    // files before it had passed. Nothing comes before this line but, where it is the record's, the first blocks of some outcome.
     ensures read { result ≡ Status.ReadFault → (file : File)
         × ReadFailed (F.files shelf.old) (F.faults shelf.old) (F.faults shelf.new)
         (files_read (command_in (texts_of words.now))) file
-        × Appends (K.taken out.old) (K.taken out.new) (fault_line (Read file)) }
+        × (x : Result Asked Fault)
+        × EndsAtRead (blocks_in x) file (K.taken out.old) (K.taken out.new) }
     ensures write { result ≡ Status.WriteFault → Rose (K.faults out.old) (K.faults out.new) }
 
     // Where no fault is counted, the status is that of the words and files, unless memory is wanted.
@@ -71,24 +72,17 @@ pub fn run<F: Shelf, K: Sink>(alloc: Global, words: &[&str], shelf: &mut F, out:
         (F.faults shelf.old) (F.faults shelf.new) }
 {
     fresh_forces_are_reference();
-    match gather(alloc, words, shelf) {
-        Ok(task) => perform(task, out),
+    match gather(alloc, &*words, shelf) {
+        Ok(Task::Replay(mut inputs)) => {
+            let name = inputs.record;
+            replay(&mut inputs.player, shelf, name, out)
+        }
+        Ok(Task::Check(plant)) => check(&plant, out),
+        Ok(Task::Make { number }) => make(number, out),
+        Ok(Task::Trial(mut inputs)) => {
+            let number = inputs.number;
+            trial(&mut inputs.player, number, out)
+        }
         Err(fault) => announce(out, fault),
-    }
-}
-
-/// Does what a command asks for.
-fn perform<K: Sink>(task: Task, out: &mut K) -> Status
-    requires { IsReady task }
-    ensures status { IsOfInputs result → result ≡ (ended (Ok (task_given task))).status }
-    ensures written { HasWritten NoReadFailed (ended (Ok (task_given task))).text result
-        (K.taken out.old) (K.taken out.new) }
-    ensures announced { IsAnnounced result (K.taken out.old) (K.taken out.new) }
-    ensures write { result ≡ Status.WriteFault → Rose (K.faults out.old) (K.faults out.new) }
-    ensures read { (result ≢ Status.ReadFault) × (result ≢ Status.Usage) }
-{
-    match task {
-        Task::Replay(mut inputs) => replay(&mut inputs.player, out, &inputs.record),
-        Task::Check(plant) => check(&plant, out),
     }
 }

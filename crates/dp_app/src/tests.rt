@@ -1,6 +1,6 @@
 use super::*;
 use dp_plant::samples::{S1, text_of};
-use dp_shell::{MemoryShelf, MemorySink, PlainShelf, PlainSink, fits_shelf};
+use dp_shell::{MemoryShelf, MemorySink, fits_shelf};
 use std::process::Abort;
 use std::test::Fail;
 
@@ -8,6 +8,11 @@ mod plants;
 mod readings;
 mod refusals;
 mod replays;
+mod streams;
+mod trials;
+
+/// What a replay of these files is asked with.
+const REPLAY: [&str; 4] = ["replay", "plant", "record", "script"];
 
 /// What a unit of demand takes, in place of the sample plant's.
 const UNIT_MASSES: &str = "mass = [1048576, 0, 0]\ntol = [1048576, 0, 0]";
@@ -87,10 +92,16 @@ fn told(
     files: Vec<(String, Vec<u8>)>,
 ) -> Result<String, Fail> {
     assert!(rt; fits_shelf(&files));
-    let mut shelf = PlainShelf::new(files);
-    let mut out = PlainSink::new(alloc);
-    let code = run(alloc, words, &mut shelf, &mut out).code();
-    let text = String::from_utf8(out.bytes().to_vec(alloc)?)?;
+    let mut shelf = MemoryShelf::new(files, Vec::new(alloc));
+    let mut out = MemorySink::new(alloc, Vec::new(alloc));
+    let status = run(alloc, words, &mut shelf, &mut out);
+    shown(alloc, status, out.bytes())
+}
+
+/// An exit code, a `~` and what was written.
+fn shown(alloc: Global, status: Status, written: &[u8]) -> Result<String, Fail> {
+    let code = status.code();
+    let text = String::from_utf8(written.to_vec(alloc)?)?;
     Ok(format!(in alloc; "{code}~{text}")?)
 }
 
@@ -98,7 +109,7 @@ fn told(
 fn played(rt: &impl Abort, alloc: Global, record: &[u8], script: &[u8]) -> Result<String, Fail> {
     let plant = plain_plant(alloc)?;
     let files = named(alloc, plant.as_bytes(), record, script)?;
-    let text = told(rt, alloc, &["replay", "plant", "record", "script"], files)?;
+    let text = told(rt, alloc, &REPLAY, files)?;
     without_alarms(alloc, &text)
 }
 
@@ -257,8 +268,6 @@ fn words_are_told(rt: HostRuntime) -> Result<(), Fail> {
         "check none~3~fault read plant\n",
         "--help~2~fault usage\n",
         "check --help~2~fault usage\n",
-        "make 0~2~fault usage\n",
-        "trial plant 0~2~fault usage\n",
         "replay none none none~3~fault read plant\n",
         "replay plant none none~3~fault read script\n",
         "replay plant none script~3~fault read record\n",
@@ -291,10 +300,8 @@ fn with_failing(
     assert!(rt; fits_shelf(&files));
     let mut shelf = MemoryShelf::new(files, vec![in alloc; read]?);
     let mut out = MemorySink::new(alloc, vec![in alloc; write]?);
-    let words = ["replay", "plant", "record", "script"];
-    let code = run(alloc, &words, &mut shelf, &mut out).code();
-    let text = String::from_utf8(out.bytes().to_vec(alloc)?)?;
-    without_alarms(alloc, &format!(in alloc; "{code}~{text}")?)
+    let status = run(alloc, &REPLAY, &mut shelf, &mut out);
+    without_alarms(alloc, &shown(alloc, status, out.bytes())?)
 }
 
 /// The read, or the write, of each number fails: `read~write~code~text`.
@@ -306,7 +313,7 @@ fn failures_are_told(rt: HostRuntime) -> Result<(), Fail> {
         "3~0~3~fault read script\n",
         "4~0~3~fault read script\n",
         "5~0~3~fault read record\n",
-        "6~0~3~fault read record\n",
+        "6~0~3~cycle 0 LLL\nt0 F 0 0 0 0\nt1 F 0 0 0 0\nt2 F 0 0 0 0\nfault read record\n",
         "7~0~0~cycle 0 LLL\nt0 F 0 0 0 0\nt1 F 0 0 0 0\nt2 F 0 0 0 0\ncycle 1 LLL\nt0 F -68360 -68360 -68360 -68360\nt1 F 0 0 0 0\nt2 F 0 0 0 0\nend 2\n",
         "0~1~4~\n",
         "0~2~4~cycle 0 LLL\nt0 F 0 0 0 0\nt1 F 0 0 0 0\nt2 F 0 0 0 0\n",

@@ -1,5 +1,5 @@
 -- What no key out of range means for each number.
-use Rattle.std.proofs.Common.{◌≡◌, ◌≤◌, ◌^◌, ℕ, zero, suc, List, [], ◌∷◌, length, Bool, true, false, ◌&&◌, Option, Some, None, refl, arith, ℤ, pos, neg_ℤ, ◌≤ℤ◌, get_or, unsigned_abs}
+use Rattle.std.proofs.Common.{◌≡◌, ◌≤◌, ◌^◌, ℕ, zero, suc, List, [], ◌∷◌, length, Bool, true, false, ◌&&◌, Option, Some, None, refl, subst, arith, ℤ, pos, neg_ℤ, ◌≤ℤ◌, get_or, unsigned_abs}
 use Rattle.std.specs.Prelude.{int_le, nat_le, IfSome, All}
 use Rattle.std.specs.List.{list_all}
 use Rattle.std.proofs.lemmas.Int.{ints}
@@ -93,6 +93,9 @@ between_at limit (z ∷ zs) (suc j) k h = between_at limit zs j k (and_parts (in
 filter_at : (parts : Parts) (zs : List ℤ) (j : ℕ) → are_filter parts zs ≡ true → unsigned_abs (get_or zs j (pos 0)) ≤ 2 ^ 30
 filter_at (Three l) zs j h = let w = place_within (pos 0) zs j (omega (arith, ints)) h in omega (arith, ints, w.0, w.1)
 filter_at (Five l) zs j h = let w = between_at full_scale zs j (omega (arith, ints)) h in omega (arith, ints, w.0, w.1)
+
+no_filter_at : (l : Lists 3) (zs : List ℤ) (j : ℕ) → are_filter (Three l) zs ≡ true → get_or zs j (pos 0) ≡ pos 0
+no_filter_at l zs j h = let w = place_within (pos 0) zs j (omega (arith, ints)) h in omega (arith, ints, w.0, w.1)
 
 dummy : Row
 dummy = ([], true)
@@ -200,6 +203,24 @@ in_range g y c h =
       numbers = number_facts c n.1;
       parts = p.1;
     }
+
+-- ---- without a wave filter its gains are zeros
+pub record HasNoWaveFilter (g : Gains) : Type 0 where
+  pub wave : (j : ℕ) → get_or g.wave j (pos 0) ≡ pos 0
+  pub k1 : (j : ℕ) → get_or g.k1 j (pos 0) ≡ pos 0
+
+no_filter_facts : (g : Gains) (l : Lists 3) → All (λ (row : Row). row.1 ≡ true) (law_rows g (Three l)) → HasNoWaveFilter g
+unfolding law_rows
+no_filter_facts g l h = record { wave = λ j. no_filter_at l g.wave j (h 3 dummy (omega arith)); k1 = λ j. no_filter_at l g.k1 j (h 4 dummy (omega arith)) }
+
+pub no_filter : (g : Gains) (y : YawGains) (c : Cert) (l : Lists 3) → c.parts ≡ Three l → first_out g y c ≡ None → HasNoWaveFilter g
+unfolding first_out
+no_filter g y c l e h =
+    let p = part_facts _ c.parts h in
+    let n = all_fit _ (number_rows c) p.0 in
+    let w = all_fit _ (yaw_rows y) n.0 in
+    let f = all_fit _ (law_rows g c.parts) w.0 in
+    no_filter_facts g l (subst (λ (parts : Parts). All (λ (row : Row). row.1 ≡ true) (law_rows g parts)) e f.1)
 
 -- ---- the names are short
 abbrev IsShort : List ℕ → Type 0

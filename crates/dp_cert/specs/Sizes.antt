@@ -1,6 +1,8 @@
--- The sizes of a loop's numbers.
-use Rattle.std.specs.Prelude.{ℕ, ◌^◌, All}
+-- The sizes of a loop's numbers, and of a form's parts.
+use Rattle.std.specs.Prelude.{◌≡◌, ◌<◌, ◌*◌, ◌^◌, ℕ, ◌*ℤ◌, ℤ, List, All, length}
 use Rattle.dp_form.specs.Range.{IsWithin}
+use Rattle.dp_form.specs.Vectors.{dot, row}
+use Rattle.dp_plant.specs.Vectors.{entry}
 use Rattle.dp_cert.specs.declared.loops.AxisLoop.{AxisLoop}
 use Rattle.dp_cert.specs.declared.loops.Loop.{Loop}
 
@@ -16,3 +18,9 @@ pub record IsSmallLoop {n : ℕ} (m : Loop n) : Type 0 where
   pub sway : IsSmallAxis m.sway
   pub correction : All (IsWithin (2 ^ 35)) m.correction
   pub rounding : All (IsWithin (2 ^ 35)) m.rounding
+
+-- a vector whose form's parts, row by row, fit 128 bits
+pub record IsLight (n : ℕ) (p : List (List ℤ)) (x : List ℤ) : Type 0 where
+  pub vector : All (IsWithin (2 ^ 56)) x
+  pub parts : (i : ℕ) → i < n → length (row p i) ≡ n
+      → IsWithin (5 * 2 ^ 120) (entry x i *ℤ dot (row p i) x)

@@ -32,6 +32,7 @@ mod faults;
 mod five_states;
 mod forms;
 mod judge;
+pub mod laws;
 mod loops;
 mod matrices;
 mod ranges;
@@ -41,6 +42,3 @@ mod width;
 
 pub use accepted::{Accepted, accept};
 pub use faults::CertFault;
-
-#[cfg(test)]
-mod tests;

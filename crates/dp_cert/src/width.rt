@@ -3,7 +3,7 @@ ghost use Rattle.std.specs.Prelude.{◌≡◌, ◌≤◌, ◌<◌, ◌^◌, ◌�
 ghost use Rattle.dp_fixed.specs.{ceil_of, full_scale, root_of};
 ghost use Rattle.dp_form.specs.{IsNonNegative, IsWithin, entry as matrix_entry};
 ghost use Rattle.dp_plant.specs.{entry};
-ghost use Rattle.dp_cert.specs.{AreLists, AreNumbers, IsUpTo, first_heavy, first_too_wide, first_wide, is_heavy, is_wide, reach, row_heavy, width};
+ghost use Rattle.dp_cert.specs.{AreLists, AreNumbers, IsUpTo, first_heavy, first_too_wide, first_wide, is_heavy, is_wide, reach, reach_of, row_heavy, width};
 
 use crate::forms::entry_of;
 use dp_fixed::{Q, ceil_div, floor_div, root_up};
@@ -25,13 +25,25 @@ pub(crate) fn first_too_wide<const N: usize>(c: &Cert, l: &Lists<N>) -> Option<u
     requires form { IsNonNegative l.now.p.at }
     ensures { result ≡ first_too_wide c.now l.now }
 {
-    let place = diagonal(&l.p.at, 0);
-    let speed = diagonal(&l.p.at, 2);
-    let n = reach(place, speed, c.rho as i128, c.b as i128, c.r as i128);
-    match widths(n, &l.span) {
+    match widths(reach_of(c, l), &l.span) {
         Err(coordinate) => Some(coordinate),
         Ok(widths) => first_heavy(&l.p, &widths),
     }
+}
+
+/// The greatest root of the certificate's form in a run.
+pub(crate) fn reach_of<const N: usize>(c: &Cert, l: &Lists<N>) -> i128
+    requires size { (N ≡ 3) ⊎ (N ≡ 5) }
+    requires numbers { AreNumbers c.now }
+    requires lists { AreLists l.now }
+    requires rate { c.now.rho <ℤ full_scale }
+    requires form { IsNonNegative l.now.p.at }
+    ensures value { result ≡ reach_of c.now l.now }
+    ensures from_zero { pos 0 ≤ℤ result }
+{
+    let place = diagonal(&l.p.at, 0);
+    let speed = diagonal(&l.p.at, 2);
+    reach(place, speed, c.rho as i128, c.b as i128, c.r as i128)
 }
 
 /// An entry of the diagonal, none below 0.
@@ -112,7 +124,7 @@ fn rounding(root: i128, r: i128) -> i128
 }
 
 /// The widths of all coordinates, or the first that is above 2^56.
-fn widths<const N: usize>(n: i128, span: &[i64; N]) -> Result<[i128; N], usize>
+pub(crate) fn widths<const N: usize>(n: i128, span: &[i64; N]) -> Result<[i128; N], usize>
     requires n { pos 0 ≤ℤ n }
     requires span { (j : ℕ) → IsUpTo (pos (2 ^ 40)) (entry span.now j) }
     ensures wide { IfErr result (λ i. first_wide N (map (width n) span.now) ≡ Some i) }

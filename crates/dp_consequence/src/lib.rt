@@ -15,6 +15,3 @@ pub mod laws;
 mod survival;
 
 pub use groups::{check, check_bits};
-
-#[cfg(test)]
-mod tests;

@@ -17,9 +17,14 @@ pub use Rattle.dp_core.specs.Inside.{IsComputer, computer_state}
 pub use Rattle.dp_core.specs.Mode.{mode}
 pub use Rattle.dp_core.specs.Trajectory.{last_issue}
 pub use Rattle.dp_core.specs.Voting.{answer, answer_if, ballot, given_ballot, message_of, taken_force, taken_forces}
-pub use Rattle.dp_core.specs.CycleAlarms.{cycle_alarms}
+pub use Rattle.dp_core.specs.CycleAlarms.{alarms_in, cycle_alarms}
 pub use Rattle.dp_core.specs.History.{answer_to_run, answers_to_wire, history, seen_of}
 pub use Rattle.dp_core.specs.Faulty.{AtMostOneFaulty}
 pub use Rattle.dp_core.specs.WorldState.{IsAllowed, after, last_of, message_by, voter_of}
 pub use Rattle.dp_core.specs.WorldView.{IsInStep, IsWorld, world_of}
 pub use Rattle.dp_core.specs.Laws.{FreshIsReference, SkewedIsFaulty, TakenIsOwn, TrajectoriesAreReference, TwoHeardAreFresh}
+-- what a world's contracts name of the crates below, and of the types
+pub use Rattle.dp_plant.specs.declared.thrusters.Thruster.{Thruster}
+pub use Rattle.dp_voter.specs.{answer_of, begun}
+pub use Rattle.dp_voter.specs.VoterState.{VoterState}
+pub use Rattle.dp_core.specs.declared.event.Event.{Event}

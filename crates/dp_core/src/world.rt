@@ -3,17 +3,11 @@ ghost use Rattle.std.specs.Prelude.{◌≡◌, ◌<◌, ◌≤ℤ◌, ◌^◌, �
 ghost use Rattle.std.specs.Option.{option_map};
 ghost use Rattle.dp_plant.specs.{IsFrameInRange, IsVectorWithin};
 ghost use Rattle.dp_machine.specs.{IsAcceptedPlant};
-ghost use Rattle.dp_plant.specs.declared.thrusters.Thruster.{Thruster};
-ghost use Rattle.dp_voter.specs.{answer_of, begun};
-ghost use Rattle.dp_voter.specs.VoterState.{VoterState};
-ghost use Rattle.dp_core.specs.ComputerState.{ComputerState, after_wire, is_live, wire_answer};
-ghost use Rattle.dp_core.specs.WorldState.{last_of, message_by, voter_of};
-ghost use Rattle.dp_core.specs.WorldView.{IsInStep};
-ghost use Rattle.dp_core.specs.CycleAlarms.{alarms_in, cycle_alarms};
+ghost use Rattle.dp_core.specs.{Event, IsAllowed, IsInStep, Thruster, VoterState, after, after_wire, alarms_in, answer, answer_if, answer_of};
+ghost use Rattle.dp_core.specs.{answer_to_run, answers_to_wire, ballot, begun, cycle_alarms, history, is_live, last_issue, last_of};
+ghost use Rattle.dp_core.specs.{message_by, message_of, mode, seen_of, taken_forces, voter_of, wire_answer};
+ghost use Rattle.dp_core.specs.ComputerState.{ComputerState};
 ghost use Rattle.dp_core.specs.Represents.{Represents};
-ghost use Rattle.dp_core.specs.{IsAllowed, after, answer, answer_if, answer_to_run, answers_to_wire};
-ghost use Rattle.dp_core.specs.{ballot, history, last_issue, message_of, mode, seen_of, taken_forces};
-ghost use Rattle.dp_core.specs.declared.event.Event.{Event};
 ghost use Rattle.dp_core.specs.declared.event.Event.TheVariants.{Wire, Run, Order, Vote, Skew, Say, Stop};
 
 use crate::computer::Computer;
@@ -191,6 +185,20 @@ impl World {
         self.computers[c as usize].stop();
     }
 
+    /// The plant that all of it is about.
+    pub fn plant(&self) -> &Plant
+        ensures { result.now ≡ self.now.plant }
+    {
+        &self.plant
+    }
+
+    /// How many cycles have begun, and so the cycle of the next frame.
+    pub fn cycles_begun(&self) -> u64
+        ensures { result ≡ self.now.cycles_begun }
+    {
+        self.cycles_begun
+    }
+
     /// How each computer takes part.
     pub fn modes(&self) -> [Mode; 3]
         ensures { (es : List Event) → Represents es self.now
@@ -330,6 +338,3 @@ fn voters_of(plant: &Plant) -> ArrayVec<Voter, 12>
     }
     voters
 }
-
-#[cfg(test)]
-mod tests;

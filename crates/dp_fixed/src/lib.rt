@@ -23,6 +23,3 @@ pub const Q: i128 = 1 << 30;
 
 /// The same in 64 bits.
 pub const FULL_SCALE: i64 = 1 << 30;
-
-#[cfg(test)]
-mod tests;

@@ -70,6 +70,3 @@ pub struct NotShown {
     /// By how much it is less, above 0.
     pub short: i128,
 }
-
-#[cfg(test)]
-mod tests;

@@ -12,3 +12,5 @@ pub mod CycleSteps
 pub mod Endings
 pub mod PieceSteps
 pub mod PieceFrames
+pub mod WireNames
+pub mod ToldLines

@@ -12,6 +12,7 @@ pub mod Represents
 pub mod Cycles
 pub mod Laws
 pub mod Ranges
+pub mod Told
 pub use Rattle.dp_frame.specs.LocalFrame.{IsCosineAt, IsOrigin, local_of, origin_of}
 pub use Rattle.dp_frame.specs.Slots.{counted_slot, gust_of, heading_of, no_slot, place_of, ready_of}
 pub use Rattle.dp_frame.specs.Frames.{IsFrameBounded, frame_of, no_frame}
@@ -26,3 +27,4 @@ pub use Rattle.dp_frame.specs.Represents.{IsOpen, RepresentsWhole, settings_of}
 pub use Rattle.dp_frame.specs.Cycles.{IsAnswered, frames_so_far, record_frames}
 pub use Rattle.dp_frame.specs.Laws.{AnswersGive, ClosedIsNext, FeedGives, FinishGives, FinishGivesAll, FramesLast, PieceGives, PrefixOfRecord, RefusalLasts, ToldIsFirst}
 pub use Rattle.dp_frame.specs.Ranges.{IsContentWithin, IsEntryWithin, IsFeedInRange, IsJudgedWithin}
+pub use Rattle.dp_frame.specs.Told.{LineIsTold, Tells, name_of}

@@ -1,7 +1,8 @@
 -- The judgement on one line, `t wire rest`, after a line of the time `last`.
-use Rattle.std.specs.Prelude.{ℕ, ◌+◌, ◌-◌, ◌*◌, ◌/◌, ◌^◌, List, ◌==◌, ◌||◌, not, nat_lt, nat_le, if◌then◌else◌, Option, Some, None, length, take, drop, slice_index, fold}
+use Rattle.std.specs.Prelude.{ℕ, ◌+◌, ◌/◌, ◌^◌, List, ◌==◌, ◌||◌, not, nat_lt, nat_le, if◌then◌else◌, Option, Some, None, length, take, drop, slice_index, unwrap_or}
 use Rattle.std.specs.List.{prefix_len}
 use Rattle.std.specs.Char.{is_ascii_digit}
+use Rattle.dp_text.specs.Numbers.{decimal_of}
 use Rattle.dp_text.specs.Parts.{is_space}
 use Rattle.dp_plant.specs.declared.frames.Wire.{Wire}
 use Rattle.dp_frame.specs.declared.settings.Settings.{Settings}
@@ -15,9 +16,9 @@ use Rattle.dp_frame.specs.Contents.{content_of}
 abbrev pub time_len : List ℕ → ℕ
 time_len line = prefix_len is_ascii_digit line
 
--- the number that these digits make
+-- the number of one to 15 digits, else 0
 abbrev pub number_of : List ℕ → ℕ
-number_of digits = fold (λ n d. n * 10 + (d - 48)) 0 digits
+number_of digits = unwrap_or (decimal_of 15 digits) 0
 
 -- the time that a line begins with
 unfoldable pub time_of : List ℕ → ℕ

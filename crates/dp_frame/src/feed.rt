@@ -33,7 +33,7 @@ pub enum Ended {
     Record(Refusal),
 }
 
-/// How far a record was read; only contracts speak of it.
+/// How far a record was read.
 #[derive(Clone, Copy)]
 pub enum Phase {
     /// `finish` wasn't called.

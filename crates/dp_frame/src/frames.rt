@@ -7,45 +7,6 @@ ghost use Rattle.dp_frame.specs.{IsEntryWithin, IsFrameBounded, IsWire, counted_
 use crate::entry::{Brought, Entry};
 use dp_plant::{Frame, Slot, Wire};
 
-fn no_slot<T: Copy>() -> Slot<T>
-    ensures { result ≡ no_slot }
-{
-    Slot {
-        last: None,
-        damage: 0,
-        skipped: 0,
-    }
-}
-
-/// The frame of a cycle that no line came for.
-pub fn empty_frame(cycle: u64) -> Frame
-    ensures value { result ≡ no_frame cycle }
-    ensures range { cycle < 2 ^ 20 → (groups : ℕ) → IsFrameInRange groups result }
-{
-    Frame {
-        cycle,
-        pos: [no_slot(); 3],
-        gyro: [no_slot(); 3],
-        wind: [no_slot(); 3],
-        group: [no_slot(); 8],
-    }
-}
-
-/// The slot with one more line counted.
-fn counted<T: Copy>(slot: Slot<T>, brought: Brought<T>) -> Slot<T>
-    requires damage { slot.damage < 2 ^ 40 }
-    requires skipped { slot.skipped < 2 ^ 40 }
-    ensures { result ≡ counted_slot brought slot }
-{
-    let mut slot = slot;
-    match brought {
-        Brought::Reading(reading) => slot.last = Some(reading),
-        Brought::Damaged => slot.damage += 1,
-        Brought::Skipped => slot.skipped += 1,
-    }
-    slot
-}
-
 /// Counts a line to the frame of its cycle.
 pub(crate) fn note(frame: &mut Frame, entry: &Entry)
     requires wire { IsWire 8 entry.now.wire }
@@ -74,5 +35,44 @@ pub(crate) fn note(frame: &mut Frame, entry: &Entry)
             frame.group[i as usize],
             entry.content.ready(),
         ),
+    }
+}
+
+/// The slot with one more line counted.
+fn counted<T: Copy>(slot: Slot<T>, brought: Brought<T>) -> Slot<T>
+    requires damage { slot.damage < 2 ^ 40 }
+    requires skipped { slot.skipped < 2 ^ 40 }
+    ensures { result ≡ counted_slot brought slot }
+{
+    let mut slot = slot;
+    match brought {
+        Brought::Reading(reading) => slot.last = Some(reading),
+        Brought::Damaged => slot.damage += 1,
+        Brought::Skipped => slot.skipped += 1,
+    }
+    slot
+}
+
+/// The frame of a cycle that no line came for.
+pub fn empty_frame(cycle: u64) -> Frame
+    ensures value { result ≡ no_frame cycle }
+    ensures range { cycle < 2 ^ 20 → (groups : ℕ) → IsFrameInRange groups result }
+{
+    Frame {
+        cycle,
+        pos: [no_slot(); 3],
+        gyro: [no_slot(); 3],
+        wind: [no_slot(); 3],
+        group: [no_slot(); 8],
+    }
+}
+
+fn no_slot<T: Copy>() -> Slot<T>
+    ensures { result ≡ no_slot }
+{
+    Slot {
+        last: None,
+        damage: 0,
+        skipped: 0,
     }
 }

@@ -1,5 +1,5 @@
 //! The judgement on one line.
-ghost use Rattle.std.specs.Prelude.{◌≡◌, ◌≤◌, length, IfSome};
+ghost use Rattle.std.specs.Prelude.{◌≡◌, IfSome};
 ghost use Rattle.dp_frame.specs.{IsJudgedWithin, IsReadable, IsWire, judge, judge_rest, judge_time, judge_wire, name_len, number_of, time_len};
 
 use crate::LineFault;
@@ -8,6 +8,7 @@ use crate::sensing::content;
 use crate::settings::Settings;
 use crate::wires::wire;
 use dp_plant::Wire;
+use dp_text::decimal;
 
 const SPACE: u8 = b' ';
 
@@ -17,72 +18,20 @@ const MOST_DIGITS: usize = 15;
 
 const CYCLES: u64 = 1 << 20;
 
-/// How many digits a line begins with.
-fn time_len(line: &[u8]) -> usize
-    ensures { result ≡ time_len line.now }
-{
-    line.iter().take_while(|byte| byte.is_ascii_digit()).count()
-}
-
-/// How many bytes come before the next space, or the end.
-fn name_len(text: &[u8]) -> usize
-    ensures { result ≡ name_len text.now }
-{
-    text.iter().take_while(|byte| **byte != SPACE).count()
-}
-
-/// The number that up to 15 digits make.
-fn number(digits: &[u8]) -> u64
-    requires { length digits.now ≤ 15 }
-    ensures { result ≡ number_of digits.now }
-{
-    let mut number: u64 = 0;
-    for byte in digits {
-        number = number * 10 + u64::from(byte.saturating_sub(b'0'));
-    }
-    number
-}
-
-/// A line of a known wire, or of none.
-#[tactic(auto, unfolding(crate::specs::Line::judge_rest))]
-fn judge_rest(settings: &Settings, time: u64, rest: &[u8], wire: Option<Wire>) -> Judged
-    requires readable { IsReadable settings.now }
-    requires wire { IfSome wire (λ w. IsWire settings.now.groups w) }
-    ensures value { result ≡ judge_rest settings.now time rest.now wire }
-    ensures within { IsJudgedWithin settings.now.groups result }
-{
-    let Some(wire) = wire else {
-        return Judged::Faulty(LineFault::UnknownWire);
-    };
-    let cycle = time / settings.cycle_ms;
-    if cycle >= CYCLES {
-        return Judged::TooMany { cycle };
-    }
-    Judged::Good(Entry {
-        time,
-        cycle,
-        wire,
-        content: content(settings, wire, rest),
-    })
-}
-
-/// What stands after the time.
-#[tactic(auto, unfolding(crate::specs::Line::judge_wire))]
-fn judge_wire(settings: &Settings, time: u64, text: &[u8]) -> Judged
+/// The judgement on a line, without its end, after a line of the time `last`.
+#[tactic(auto, unfolding(crate::specs::Line::judge))]
+pub(crate) fn judge(settings: &Settings, last: u64, line: &[u8]) -> Judged
     requires { IsReadable settings.now }
-    ensures value { result ≡ judge_wire settings.now time text.now }
+    ensures value { result ≡ judge settings.now last line.now }
     ensures within { IsJudgedWithin settings.now.groups result }
 {
-    let count = name_len(text);
-    if count == 0 {
-        return Judged::Faulty(LineFault::NoWire);
+    if line.is_empty() {
+        return Judged::Blank;
     }
-    let rest = if count < text.len() {
-        &text[count + 1..]
-    } else {
-        &[]
-    };
-    judge_rest(settings, time, rest, wire(settings.groups, &text[..count]))
+    if line.len() > LONGEST {
+        return Judged::Faulty(LineFault::LongLine);
+    }
+    judge_time(settings, last, line)
 }
 
 /// A line that isn't empty, nor too long.
@@ -106,18 +55,65 @@ fn judge_time(settings: &Settings, last: u64, line: &[u8]) -> Judged
     judge_wire(settings, now, &line[count + 1..])
 }
 
-/// The judgement on a line, without its end, after a line of the time `last`.
-#[tactic(auto, unfolding(crate::specs::Line::judge))]
-pub(crate) fn judge(settings: &Settings, last: u64, line: &[u8]) -> Judged
+/// How many digits a line begins with.
+fn time_len(line: &[u8]) -> usize
+    ensures { result ≡ time_len line.now }
+{
+    line.iter().take_while(|byte| byte.is_ascii_digit()).count()
+}
+
+/// The number that up to 15 digits make.
+fn number(digits: &[u8]) -> u64
+    ensures { result ≡ number_of digits.now }
+{
+    decimal(digits, MOST_DIGITS).unwrap_or(0)
+}
+
+/// What stands after the time.
+#[tactic(auto, unfolding(crate::specs::Line::judge_wire))]
+fn judge_wire(settings: &Settings, time: u64, text: &[u8]) -> Judged
     requires { IsReadable settings.now }
-    ensures value { result ≡ judge settings.now last line.now }
+    ensures value { result ≡ judge_wire settings.now time text.now }
     ensures within { IsJudgedWithin settings.now.groups result }
 {
-    if line.is_empty() {
-        return Judged::Blank;
+    let count = name_len(text);
+    if count == 0 {
+        return Judged::Faulty(LineFault::NoWire);
     }
-    if line.len() > LONGEST {
-        return Judged::Faulty(LineFault::LongLine);
+    let rest = if count < text.len() {
+        &text[count + 1..]
+    } else {
+        &[]
+    };
+    judge_rest(settings, time, rest, wire(settings.groups, &text[..count]))
+}
+
+/// How many bytes come before the next space, or the end.
+fn name_len(text: &[u8]) -> usize
+    ensures { result ≡ name_len text.now }
+{
+    text.iter().take_while(|byte| **byte != SPACE).count()
+}
+
+/// A line of a known wire, or of none.
+#[tactic(auto, unfolding(crate::specs::Line::judge_rest))]
+fn judge_rest(settings: &Settings, time: u64, rest: &[u8], wire: Option<Wire>) -> Judged
+    requires readable { IsReadable settings.now }
+    requires wire { IfSome wire (λ w. IsWire settings.now.groups w) }
+    ensures value { result ≡ judge_rest settings.now time rest.now wire }
+    ensures within { IsJudgedWithin settings.now.groups result }
+{
+    let Some(wire) = wire else {
+        return Judged::Faulty(LineFault::UnknownWire);
+    };
+    let cycle = time / settings.cycle_ms;
+    if cycle >= CYCLES {
+        return Judged::TooMany { cycle };
     }
-    judge_time(settings, last, line)
+    Judged::Good(Entry {
+        time,
+        cycle,
+        wire,
+        content: content(settings, wire, rest),
+    })
 }

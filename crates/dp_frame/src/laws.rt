@@ -1,5 +1,5 @@
 //! What holds of every record: each function's contract is the law.
-ghost use Rattle.dp_frame.specs.{AnswersGive, ClosedIsNext, FeedGives, FinishGives, FinishGivesAll, FramesLast, PieceGives, PrefixOfRecord, RefusalLasts, ToldIsFirst};
+ghost use Rattle.dp_frame.specs.{AnswersGive, ClosedIsNext, FeedGives, FinishGives, FinishGivesAll, FramesLast, LineIsTold, PieceGives, PrefixOfRecord, RefusalLasts, ToldIsFirst};
 
 /// Each byte adds to the frames that are over just those that it is answered: the frame that it closes and the empty ones behind it.
 pub fn feed_gives()
@@ -49,4 +49,10 @@ pub fn closed_is_next()
 /// An answer tells of a line just where one can't be taken, and then of the first.
 pub fn told_is_first()
     ensures { ToldIsFirst }
+{}
+
+/// A line that tells a time, a wire of the plant and a rest is judged by these, and is good where its cycle is below 2^20; and each line
+/// that is neither empty nor faulty tells them.
+pub fn line_is_told()
+    ensures { LineIsTold }
 {}

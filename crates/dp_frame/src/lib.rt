@@ -36,7 +36,7 @@
 //! empty text, after [`Lines::feed`] each text that it represented with this byte behind it, and each answer is the definitions' answer.
 //! [`Lines::feed_piece`] takes many bytes at once, up to the first that brings something, and answers what `feed` would to the last of them.
 //! Closed frames are in range. [`laws`] says what follows: the frames that the answers give are those of the whole record in order, however
-//! it goes on, and the line that is named is the first.
+//! it goes on, the line that is named is the first, and a line is judged by the time, the wire and the rest that it was written from (`Told`).
 //!
 //! [`Origin`] is the origin of the local frame, and [`Origin::local`] the place of a latitude and a longitude in it (`LocalFrame`).
 //!

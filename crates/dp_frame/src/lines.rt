@@ -44,55 +44,6 @@ impl Model for Lines {
         record { progress = l.progress; prefix = l.prefix.items; prefix_len = l.prefix_len; bytes = l.bytes; phase = l.phase } };
 }
 
-/// The line without the one carriage return at its end.
-fn strip(line: &[u8]) -> &[u8]
-    ensures { result.now ≡ stripped line.now }
-{
-    match line.strip_suffix(b"\r") {
-        Some(rest) => rest,
-        None => line,
-    }
-}
-
-/// How many bytes come before the next line feed, or the end.
-fn line_len(text: &[u8]) -> usize
-    ensures { result ≡ line_len text.now }
-{
-    memchr(LINE_FEED, text).unwrap_or(text.len())
-}
-
-/// Keeps the next bytes of a line, as many as there is room for.
-fn keep(prefix: &mut ArrayVec<u8, 193>, bytes: &[u8])
-    ensures kept { length prefix.old.items ≤ 193
-        → prefix.new.items ≡ take 193 (prefix.old.items ++ bytes.now) }
-    ensures short { length prefix.old.items ≤ 193 → length prefix.new.items ≤ 193 }
-{
-    let count = bytes.len().min(prefix.remaining_capacity());
-    append(prefix, &bytes[..count]);
-}
-
-/// The line to judge: one of more than 193 bytes is too long with and without a carriage return.
-fn whole(prefix: &[u8], prefix_len: u64) -> &[u8]
-    ensures short { prefix_len ≤ 193 → result.now ≡ stripped prefix.now }
-    ensures long { 193 < prefix_len → result.now ≡ prefix.now }
-{
-    if prefix_len > 193 {
-        prefix
-    } else {
-        strip(prefix)
-    }
-}
-
-/// Nothing comes to its end.
-fn is_nothing(ended: Ended) -> bool
-    ensures { (frame : Frame) → result ≡ is_more (feed_of frame ended) }
-{
-    match ended {
-        Ended::Nothing => true,
-        Ended::Cycle { .. } | Ended::Record(_) => false,
-    }
-}
-
 impl Lines {
     /// A reader of a plant's record, before its first byte.
     ///
@@ -126,6 +77,20 @@ impl Lines {
             bytes: 0,
             phase: Phase::Open,
         }
+    }
+
+    /// How far the record was read.
+    pub fn phase(&self) -> Phase
+        ensures { result ≡ self.now.phase }
+    {
+        self.phase
+    }
+
+    /// How many bytes of the record were taken.
+    pub fn bytes(&self) -> u64
+        ensures { result ≡ self.now.bytes }
+    {
+        self.bytes
     }
 
     /// Takes the next byte, and answers what it brings to an end; only a line feed ends a line.
@@ -385,5 +350,51 @@ impl Lines {
     }
 }
 
-#[cfg(test)]
-mod tests;
+/// The line without the one carriage return at its end.
+fn strip(line: &[u8]) -> &[u8]
+    ensures { result.now ≡ stripped line.now }
+{
+    match line.strip_suffix(b"\r") {
+        Some(rest) => rest,
+        None => line,
+    }
+}
+
+/// How many bytes come before the next line feed, or the end.
+fn line_len(text: &[u8]) -> usize
+    ensures { result ≡ line_len text.now }
+{
+    memchr(LINE_FEED, text).unwrap_or(text.len())
+}
+
+/// Keeps the next bytes of a line, as many as there is room for.
+fn keep(prefix: &mut ArrayVec<u8, 193>, bytes: &[u8])
+    ensures kept { length prefix.old.items ≤ 193
+        → prefix.new.items ≡ take 193 (prefix.old.items ++ bytes.now) }
+    ensures short { length prefix.old.items ≤ 193 → length prefix.new.items ≤ 193 }
+{
+    let count = bytes.len().min(prefix.remaining_capacity());
+    append(prefix, &bytes[..count]);
+}
+
+/// The line to judge: one of more than 193 bytes is too long with and without a carriage return.
+fn whole(prefix: &[u8], prefix_len: u64) -> &[u8]
+    ensures short { prefix_len ≤ 193 → result.now ≡ stripped prefix.now }
+    ensures long { 193 < prefix_len → result.now ≡ prefix.now }
+{
+    if prefix_len > 193 {
+        prefix
+    } else {
+        strip(prefix)
+    }
+}
+
+/// Nothing comes to its end.
+fn is_nothing(ended: Ended) -> bool
+    ensures { (frame : Frame) → result ≡ is_more (feed_of frame ended) }
+{
+    match ended {
+        Ended::Nothing => true,
+        Ended::Cycle { .. } | Ended::Record(_) => false,
+    }
+}

@@ -44,6 +44,34 @@ impl Model for Origin {
     ghost invariant = { λ o. IsOrigin (o.lat, o.lon) × IsCosineAt o.lat o.cosine };
 }
 
+impl Origin {
+    /// The origin of a plant's frame.
+    pub fn of(plant: &Plant, trig: &Trig) -> Origin
+        requires { IsOrigin (origin_of plant.now) }
+        ensures { result ≡ origin_of plant.now }
+    {
+        let lat = plant.origin[0];
+        Origin {
+            lat,
+            lon: plant.origin[1],
+            cosine: cosine_of(lat, trig),
+        }
+    }
+
+    /// The place of a latitude and a longitude in 10^-7 minutes, north and east above 0; `None` where a coordinate lies farther than
+    /// 2^43 nm (about 8.8 km) from the origin.
+    ///
+    /// The longitude counts the short way round, so a frame may lie across the date line. The cosine is that of the origin's latitude in
+    /// whole hundredths of a degree, and the eastward distance is rounded down to a whole nanometre.
+    #[tactic(auto, unfolding(crate::specs::LocalFrame::local_of))]
+    pub fn local(&self, lat: i64, lon: i64) -> Option<Place>
+        ensures value { result ≡ local_of self.now lat lon }
+        ensures within { IfSome result (λ p. IsVectorWithin (2 ^ 43) p) }
+    {
+        place_in_frame(northing(self.lat, lat), easting(self.cosine, self.lon, lon))
+    }
+}
+
 /// The cosine of a latitude, from the sine pairs of whole hundredths of a degree.
 fn cosine_of(lat: i64, trig: &Trig) -> i64
     requires { unsigned_abs lat ≤ 53400000000 }
@@ -83,34 +111,3 @@ fn place_in_frame(north: i128, east: i128) -> Option<Place>
         None
     }
 }
-
-impl Origin {
-    /// The origin of a plant's frame.
-    pub fn of(plant: &Plant, trig: &Trig) -> Origin
-        requires { IsOrigin (origin_of plant.now) }
-        ensures { result ≡ origin_of plant.now }
-    {
-        let lat = plant.origin[0];
-        Origin {
-            lat,
-            lon: plant.origin[1],
-            cosine: cosine_of(lat, trig),
-        }
-    }
-
-    /// The place of a latitude and a longitude in 10^-7 minutes, north and east above 0; `None` where a coordinate lies farther than
-    /// 2^43 nm (about 8.8 km) from the origin.
-    ///
-    /// The longitude counts the short way round, so a frame may lie across the date line. The cosine is that of the origin's latitude in
-    /// whole hundredths of a degree, and the eastward distance is rounded down to a whole nanometre.
-    #[tactic(auto, unfolding(crate::specs::LocalFrame::local_of))]
-    pub fn local(&self, lat: i64, lon: i64) -> Option<Place>
-        ensures value { result ≡ local_of self.now lat lon }
-        ensures within { IfSome result (λ p. IsVectorWithin (2 ^ 43) p) }
-    {
-        place_in_frame(northing(self.lat, lat), easting(self.cosine, self.lon, lon))
-    }
-}
-
-#[cfg(test)]
-mod tests;

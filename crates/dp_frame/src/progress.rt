@@ -34,59 +34,6 @@ pub struct Progress {
     pub over: Frame,
 }
 
-/// Begins the frame of a cycle, and sets the kept one aside.
-fn begin(kept: &mut Frame, over: &mut Frame, cycle: u64)
-    ensures over { over.new ≡ kept.old }
-    ensures kept { kept.new ≡ no_frame cycle }
-    ensures range { cycle < 2 ^ 20 → (groups : ℕ) → IsFrameInRange groups kept.new }
-{
-    *over = *kept;
-    *kept = empty_frame(cycle);
-}
-
-/// Counts an entry to the kept frame, or to the one that it opens.
-fn enter(kept: &mut Frame, over: &mut Frame, entry: &Entry) -> Ended
-    requires wire { IsWire 8 entry.now.wire }
-    requires room { IsFrameBounded (2 ^ 40 - 1) kept.old }
-    ensures kept { (es : List Entry) → kept.old ≡ frame_of (last_cycle es) es → Follows es entry.now
-        → kept.new ≡ frame_of entry.now.cycle (entry.now ∷ es) }
-    ensures answer { (es : List Entry) → kept.old ≡ frame_of (last_cycle es) es → Follows es entry.now
-        → feed_of over.new result ≡ closed es (entry.now ∷ es) }
-    ensures bounded { (n : ℕ) → IsFrameBounded n kept.old → IsFrameBounded (n + 1) kept.new }
-    ensures range { (groups : ℕ) → IsFrameInRange groups kept.old → IsEntryWithin groups entry.now
-        → IsFrameInRange groups kept.new × IsFeedInRange groups (feed_of over.new result) }
-    ensures next { kept.new.cycle ≡ kept.old.cycle + length (given (feed_of over.new result)) }
-    ensures closes { ClosesCycle kept.old.cycle (feed_of over.new result) }
-{
-    let cycle = kept.cycle;
-    if cycle < entry.cycle {
-        begin(kept, over, entry.cycle);
-        note(kept, entry);
-        Ended::Cycle {
-            empty: entry.cycle - cycle - 1,
-        }
-    } else {
-        note(kept, entry);
-        Ended::Nothing
-    }
-}
-
-impl Refusal {
-    /// The answer that names it.
-    pub(crate) fn told(self) -> Feed
-        ensures value { result ≡ told self }
-        ensures gives { given result ≡ [] }
-        ensures range { (groups : ℕ) → IsFeedInRange groups result }
-        ensures closes { (n : ℕ) → ClosesCycle n result }
-        ensures closed { is_closed result ≡ false }
-    {
-        match self {
-            Refusal::Faulty { line, kind } => Feed::Fault { line, kind },
-            Refusal::TooMany { line, cycle } => Feed::TooMany { line, cycle },
-        }
-    }
-}
-
 impl Progress {
     /// Judges the next line, and answers what it brings to an end.
     pub(crate) fn line(&mut self, line: &[u8]) -> Ended
@@ -163,5 +110,58 @@ impl Progress {
     {
         self.refusal = Some(refusal);
         Ended::Record(refusal)
+    }
+}
+
+/// Counts an entry to the kept frame, or to the one that it opens.
+fn enter(kept: &mut Frame, over: &mut Frame, entry: &Entry) -> Ended
+    requires wire { IsWire 8 entry.now.wire }
+    requires room { IsFrameBounded (2 ^ 40 - 1) kept.old }
+    ensures kept { (es : List Entry) → kept.old ≡ frame_of (last_cycle es) es → Follows es entry.now
+        → kept.new ≡ frame_of entry.now.cycle (entry.now ∷ es) }
+    ensures answer { (es : List Entry) → kept.old ≡ frame_of (last_cycle es) es → Follows es entry.now
+        → feed_of over.new result ≡ closed es (entry.now ∷ es) }
+    ensures bounded { (n : ℕ) → IsFrameBounded n kept.old → IsFrameBounded (n + 1) kept.new }
+    ensures range { (groups : ℕ) → IsFrameInRange groups kept.old → IsEntryWithin groups entry.now
+        → IsFrameInRange groups kept.new × IsFeedInRange groups (feed_of over.new result) }
+    ensures next { kept.new.cycle ≡ kept.old.cycle + length (given (feed_of over.new result)) }
+    ensures closes { ClosesCycle kept.old.cycle (feed_of over.new result) }
+{
+    let cycle = kept.cycle;
+    if cycle < entry.cycle {
+        begin(kept, over, entry.cycle);
+        note(kept, entry);
+        Ended::Cycle {
+            empty: entry.cycle - cycle - 1,
+        }
+    } else {
+        note(kept, entry);
+        Ended::Nothing
+    }
+}
+
+/// Begins the frame of a cycle, and sets the kept one aside.
+fn begin(kept: &mut Frame, over: &mut Frame, cycle: u64)
+    ensures over { over.new ≡ kept.old }
+    ensures kept { kept.new ≡ no_frame cycle }
+    ensures range { cycle < 2 ^ 20 → (groups : ℕ) → IsFrameInRange groups kept.new }
+{
+    *over = *kept;
+    *kept = empty_frame(cycle);
+}
+
+impl Refusal {
+    /// The answer that names it.
+    pub(crate) fn told(self) -> Feed
+        ensures value { result ≡ told self }
+        ensures gives { given result ≡ [] }
+        ensures range { (groups : ℕ) → IsFeedInRange groups result }
+        ensures closes { (n : ℕ) → ClosesCycle n result }
+        ensures closed { is_closed result ≡ false }
+    {
+        match self {
+            Refusal::Faulty { line, kind } => Feed::Fault { line, kind },
+            Refusal::TooMany { line, cycle } => Feed::TooMany { line, cycle },
+        }
     }
 }

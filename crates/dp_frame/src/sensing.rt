@@ -11,6 +11,26 @@ use dp_nav::{FIELDS_READ, Reading, Skip, WireKind, plain, sensed_first};
 use dp_plant::{Place, Wire};
 use dp_sentence::read_first;
 
+/// What a line brings for its wire, by what stands after the wire.
+#[tactic(auto, unfolding(crate::specs::Contents::content_of))]
+pub(crate) fn content(settings: &Settings, wire: Wire, rest: &[u8]) -> Content
+    ensures value { result ≡ content_of settings.now wire rest.now }
+    ensures within { IsContentWithin result }
+{
+    let kind = kind_of(wire);
+    if is_plain(rest) {
+        return content_by(&settings.origin, plain(kind, rest));
+    }
+    let mut fields: ArrayVec<&[u8], FIELDS_READ> = ArrayVec::new();
+    match read_first(rest, &mut fields) {
+        Ok(address) => content_by(
+            &settings.origin,
+            sensed_first(kind, address.formatter, fields.as_slice()),
+        ),
+        Err(_) => Content::Damaged,
+    }
+}
+
 fn kind_of(wire: Wire) -> WireKind
     ensures { result ≡ kind_of wire }
 {
@@ -48,25 +68,5 @@ fn content_by(origin: &Origin, said: Result<Reading, Skip>) -> Content
         Ok(Reading::Wind(gust)) => Content::Wind(gust),
         Ok(Reading::Group(ready)) => Content::Ready(ready),
         Err(_) => Content::Skipped,
-    }
-}
-
-/// What a line brings for its wire, by what stands after the wire.
-#[tactic(auto, unfolding(crate::specs::Contents::content_of))]
-pub(crate) fn content(settings: &Settings, wire: Wire, rest: &[u8]) -> Content
-    ensures value { result ≡ content_of settings.now wire rest.now }
-    ensures within { IsContentWithin result }
-{
-    let kind = kind_of(wire);
-    if is_plain(rest) {
-        return content_by(&settings.origin, plain(kind, rest));
-    }
-    let mut fields: ArrayVec<&[u8], FIELDS_READ> = ArrayVec::new();
-    match read_first(rest, &mut fields) {
-        Ok(address) => content_by(
-            &settings.origin,
-            sensed_first(kind, address.formatter, fields.as_slice()),
-        ),
-        Err(_) => Content::Damaged,
     }
 }

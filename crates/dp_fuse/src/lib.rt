@@ -18,6 +18,3 @@ mod weighted;
 pub use angles::heading;
 pub use gusts::wind;
 pub use places::{Fused, position};
-
-#[cfg(test)]
-mod tests;

@@ -45,6 +45,3 @@ pub use dp_reftest::Kept;
 pub use issue::Issue;
 pub use machine::Machine;
 pub use state::State;
-
-#[cfg(test)]
-mod tests;

@@ -48,7 +48,78 @@ pub(crate) enum Axis {
     Longitude,
 }
 
+/// The fix of a GGA sentence's fields.
+#[tactic(auto, unfolding(crate::specs::Gga::fix_of))]
+pub(crate) fn fix(fields: &[&[u8]]) -> Result<Reading, Skip>
+    ensures value { result ≡ Gga.fix_of (texts_of fields.now) }
+    ensures within { IfOk result IsReadingWithin }
+{
+    check_quality(fields)?;
+    let lat = Axis::Latitude.coordinate(fields, 2)?;
+    let lon = Axis::Longitude.coordinate(fields, 4)?;
+    Ok(Reading::Fix { lat, lon })
+}
+
+/// Goes on where the quality indicator is one of a fix.
+fn check_quality(fields: &[&[u8]]) -> Result<(), Skip>
+    ensures { result ≡ Gga.quality_of (texts_of fields.now) }
+{
+    let is_fix = is_fix(field(fields, 6)?).ok_or(Skip::BadField { index: 6 })?;
+    if is_fix { Ok(()) } else { Err(Skip::NotValid) }
+}
+
+/// Whether a quality indicator is one of a fix.
+fn is_fix(quality: &[u8]) -> Option<bool>
+    ensures { result ≡ Gga.is_fix_of quality.now }
+{
+    match quality {
+        [b'1'..=b'5'] => Some(true),
+        [b'0' | b'6'..=b'8'] => Some(false),
+        _ => None,
+    }
+}
+
 impl Axis {
+    /// The coordinate of the angle in field `index` and the letter in the field after it.
+    #[tactic(auto, unfolding(crate::specs::Gga::coordinate_of))]
+    fn coordinate(self, fields: &[&[u8]], index: usize) -> Result<i64, Skip>
+        requires from_one { 1 ≤ index }
+        requires few { index ≤ 24 }
+        ensures value { result ≡ Gga.coordinate_of self index (texts_of fields.now) }
+        ensures bound { IfOk result (λ x. unsigned_abs x ≤ Gga.most_degrees self * 600000000) }
+    {
+        let angle = self
+            .angle(field(fields, index)?)
+            .ok_or(Skip::BadField { index })?;
+        let index = index + 1;
+        let is_negative = self
+            .is_negative(field(fields, index)?)
+            .ok_or(Skip::BadField { index })?;
+        let angle = angle as i64;
+        Ok(if is_negative { -angle } else { angle })
+    }
+
+    /// An angle in degrees and minutes, in 10^-7 minute.
+    #[tactic(auto, unfolding(crate::specs::Gga::angle_of))]
+    fn angle(self, text: &[u8]) -> Option<u64>
+        ensures value { result ≡ Gga.angle_of self text.now }
+        ensures bound { IfSome result (λ angle. angle ≤ Gga.most_degrees self * 600000000) }
+    {
+        let decimal = Decimal::read(text)?;
+        let digits = self.degree_digits();
+        if decimal.whole.len() != digits + 2 {
+            return None;
+        }
+        let degrees = number(&decimal.whole[..digits]);
+        let minutes = number(&decimal.whole[digits..]);
+        let angle = (degrees * 60 + minutes) * MINUTE + kept(decimal.decimals, DECIMALS);
+        if minutes < 60 && angle <= self.most_degrees() * DEGREE {
+            Some(angle)
+        } else {
+            None
+        }
+    }
+
     /// How many digits the degrees have.
     fn degree_digits(self) -> usize
         ensures value { result ≡ Gga.degree_digits self }
@@ -80,76 +151,5 @@ impl Axis {
             (Axis::Latitude, [b'S']) | (Axis::Longitude, [b'W']) => Some(true),
             _ => None,
         }
-    }
-
-    /// An angle in degrees and minutes, in 10^-7 minute.
-    #[tactic(auto, unfolding(crate::specs::Gga::angle_of))]
-    fn angle(self, text: &[u8]) -> Option<u64>
-        ensures value { result ≡ Gga.angle_of self text.now }
-        ensures bound { IfSome result (λ angle. angle ≤ Gga.most_degrees self * 600000000) }
-    {
-        let decimal = Decimal::read(text)?;
-        let digits = self.degree_digits();
-        if decimal.whole.len() != digits + 2 {
-            return None;
-        }
-        let degrees = number(&decimal.whole[..digits]);
-        let minutes = number(&decimal.whole[digits..]);
-        let angle = (degrees * 60 + minutes) * MINUTE + kept(decimal.decimals, DECIMALS);
-        if minutes < 60 && angle <= self.most_degrees() * DEGREE {
-            Some(angle)
-        } else {
-            None
-        }
-    }
-
-    /// The coordinate of the angle in field `index` and the letter in the field after it.
-    #[tactic(auto, unfolding(crate::specs::Gga::coordinate_of))]
-    fn coordinate(self, fields: &[&[u8]], index: usize) -> Result<i64, Skip>
-        requires from_one { 1 ≤ index }
-        requires few { index ≤ 24 }
-        ensures value { result ≡ Gga.coordinate_of self index (texts_of fields.now) }
-        ensures bound { IfOk result (λ x. unsigned_abs x ≤ Gga.most_degrees self * 600000000) }
-    {
-        let angle = self
-            .angle(field(fields, index)?)
-            .ok_or(Skip::BadField { index })?;
-        let index = index + 1;
-        let is_negative = self
-            .is_negative(field(fields, index)?)
-            .ok_or(Skip::BadField { index })?;
-        let angle = angle as i64;
-        Ok(if is_negative { -angle } else { angle })
-    }
-}
-
-/// The fix of a GGA sentence's fields.
-#[tactic(auto, unfolding(crate::specs::Gga::fix_of))]
-pub(crate) fn fix(fields: &[&[u8]]) -> Result<Reading, Skip>
-    ensures value { result ≡ Gga.fix_of (texts_of fields.now) }
-    ensures within { IfOk result IsReadingWithin }
-{
-    check_quality(fields)?;
-    let lat = Axis::Latitude.coordinate(fields, 2)?;
-    let lon = Axis::Longitude.coordinate(fields, 4)?;
-    Ok(Reading::Fix { lat, lon })
-}
-
-/// Goes on where the quality indicator is one of a fix.
-fn check_quality(fields: &[&[u8]]) -> Result<(), Skip>
-    ensures { result ≡ Gga.quality_of (texts_of fields.now) }
-{
-    let is_fix = is_fix(field(fields, 6)?).ok_or(Skip::BadField { index: 6 })?;
-    if is_fix { Ok(()) } else { Err(Skip::NotValid) }
-}
-
-/// Whether a quality indicator is one of a fix.
-fn is_fix(quality: &[u8]) -> Option<bool>
-    ensures { result ≡ Gga.is_fix_of quality.now }
-{
-    match quality {
-        [b'1'..=b'5'] => Some(true),
-        [b'0' | b'6'..=b'8'] => Some(false),
-        _ => None,
     }
 }

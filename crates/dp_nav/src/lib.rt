@@ -28,6 +28,7 @@
 //!
 //! Each call gives exactly what its definition says of all lines (`value`): `specs/Sensed`, `Gga`, `Hdt`, `Ths` and `Mwv` for sentences,
 //! `specs/Plain` for plain forms. What it gives is within the ranges of [`Reading`] (`within`, `specs/ReadingRanges`). No call takes memory.
+//! [`laws`] says of a fix that it is the place that the fields name, and of a place that it is read (`specs/Named`).
 //!
 //! # How to read another formatter
 //!
@@ -38,12 +39,11 @@ mod decimals;
 mod fields;
 mod gga;
 mod hdt;
+pub mod laws;
 mod mwv;
 mod plain_forms;
 mod reading;
 mod sensing;
-#[cfg(test)]
-mod tests;
 mod ths;
 mod turns;
 

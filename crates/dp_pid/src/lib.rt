@@ -26,8 +26,6 @@
 mod axis;
 mod body;
 mod law;
-#[cfg(test)]
-mod tests;
 mod wind;
 
 pub use law::{Asked, issue};

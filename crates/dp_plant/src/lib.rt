@@ -60,6 +60,3 @@ pub use yaw::YawState;
 /// Memory was wanted and not found.
 #[derive(Clone, Copy, Debug, PartialEq, Eq)]
 pub struct Memory;
-
-#[cfg(test)]
-mod tests;

@@ -26,8 +26,6 @@ mod kept;
 pub mod laws;
 mod reference;
 mod sums;
-#[cfg(test)]
-mod tests;
 
 pub use kept::Kept;
 pub use reference::RefTest;

@@ -39,48 +39,6 @@ fn raised_by(alarms: Option<Alarms>) -> Alarms
     })
 }
 
-fn are_two(a: bool, b: bool, c: bool) -> bool
-    ensures { result ≡ are_two (λ x. x) (a ∷ b ∷ c ∷ []) }
-{
-    (a && (b || c)) || (b && c)
-}
-
-fn is_cause(a: Cause, b: Cause) -> bool
-    ensures { result ≡ is_cause a b }
-{
-    a == b
-}
-
-/// The fault that at least two give.
-#[tactic(auto, using(crate::proofs::CauseVotes::voted_cause))]
-fn agreed_cause(a: Cause, b: Cause, c: Cause) -> Cause
-    ensures { result ≡ agreed_cause (a ∷ b ∷ c ∷ []) }
-{
-    if is_cause(a, b) {
-        a
-    } else if is_cause(b, c) {
-        b
-    } else if is_cause(c, a) {
-        c
-    } else {
-        Cause::Good
-    }
-}
-
-/// The wires that at least two masks have.
-fn agreed_wires(a: u32, b: u32, c: u32) -> u32
-    ensures { result ≡ agreed_bits 32 (a ∷ b ∷ c ∷ []) }
-{
-    a & b | a & c | b & c
-}
-
-/// The groups that at least two masks have.
-fn agreed_groups(a: u8, b: u8, c: u8) -> u8
-    ensures { result ≡ agreed_bits 8 (a ∷ b ∷ c ∷ []) }
-{
-    a & b | a & c | b & c
-}
-
 #[tactic(auto, unfolding(crate::specs::Agreement::agreed_alarms))]
 fn agreed_alarms(a: &Alarms, b: &Alarms, c: &Alarms) -> Alarms
     ensures { result ≡ agreed_alarms (a.now ∷ b.now ∷ c.now ∷ []) }
@@ -103,4 +61,46 @@ fn agreed_alarms(a: &Alarms, b: &Alarms, c: &Alarms) -> Alarms
         nocase: are_two(a.nocase, b.nocase, c.nocase),
         lost: agreed_groups(a.lost, b.lost, c.lost),
     }
+}
+
+/// The fault that at least two give.
+#[tactic(auto, using(crate::proofs::CauseVotes::voted_cause))]
+fn agreed_cause(a: Cause, b: Cause, c: Cause) -> Cause
+    ensures { result ≡ agreed_cause (a ∷ b ∷ c ∷ []) }
+{
+    if is_cause(a, b) {
+        a
+    } else if is_cause(b, c) {
+        b
+    } else if is_cause(c, a) {
+        c
+    } else {
+        Cause::Good
+    }
+}
+
+fn are_two(a: bool, b: bool, c: bool) -> bool
+    ensures { result ≡ are_two (λ x. x) (a ∷ b ∷ c ∷ []) }
+{
+    (a && (b || c)) || (b && c)
+}
+
+fn is_cause(a: Cause, b: Cause) -> bool
+    ensures { result ≡ is_cause a b }
+{
+    a == b
+}
+
+/// The wires that at least two masks have.
+fn agreed_wires(a: u32, b: u32, c: u32) -> u32
+    ensures { result ≡ agreed_bits 32 (a ∷ b ∷ c ∷ []) }
+{
+    a & b | a & c | b & c
+}
+
+/// The groups that at least two masks have.
+fn agreed_groups(a: u8, b: u8, c: u8) -> u8
+    ensures { result ≡ agreed_bits 8 (a ∷ b ∷ c ∷ []) }
+{
+    a & b | a & c | b & c
 }

@@ -46,32 +46,15 @@ fn append_lines(into: &mut ArrayVec<u8, TEXT>, alarms: &Alarms)
     append_demands(into, alarms);
 }
 
-/// Appends the line of an alarm, if it is raised.
-#[tactic(auto, unfolding(crate::specs::Alarms::alarm_line))]
-fn append_alarm(into: &mut ArrayVec<u8, TEXT>, raised: bool, words: &[u8])
-    requires { array_vec_len into.old + length words.now + 7 ≤ TEXT }
-    ensures text { into.new.items ≡ into.old.items ++ alarm_line raised words.now }
-    ensures len { array_vec_len into.new ≤ array_vec_len into.old + length words.now + 7 }
+#[tactic(auto, unfolding(crate::specs::Alarms::reference_lines))]
+fn append_references(into: &mut ArrayVec<u8, TEXT>, causes: &[Cause; 3])
+    requires { array_vec_len into.old + 114 ≤ TEXT }
+    ensures text { into.new.items ≡ into.old.items ++ reference_lines causes.now }
+    ensures len { array_vec_len into.new ≤ array_vec_len into.old + 114 }
 {
-    if raised {
-        append(into, b"alarm ");
-        append(into, words);
-        append(into, b"\n");
-    }
-}
-
-#[tactic(auto, unfolding(crate::specs::Alarms::reference_line))]
-fn append_reference(into: &mut ArrayVec<u8, TEXT>, i: u64, word: &[u8])
-    requires word { length word.now ≤ 6 }
-    requires room { array_vec_len into.old + 38 ≤ TEXT }
-    ensures text { into.new.items ≡ into.old.items ++ reference_line i word.now }
-    ensures len { array_vec_len into.new ≤ array_vec_len into.old + 38 }
-{
-    append(into, b"alarm ref ");
-    append_decimal(into, i);
-    append(into, b" ");
-    append(into, word);
-    append(into, b"\n");
+    append_cause(into, 0, causes[0]);
+    append_cause(into, 1, causes[1]);
+    append_cause(into, 2, causes[2]);
 }
 
 /// Appends the line of reference `i`, if it isn't good.
@@ -91,15 +74,90 @@ fn append_cause(into: &mut ArrayVec<u8, TEXT>, i: u64, cause: Cause)
     }
 }
 
-#[tactic(auto, unfolding(crate::specs::Alarms::reference_lines))]
-fn append_references(into: &mut ArrayVec<u8, TEXT>, causes: &[Cause; 3])
-    requires { array_vec_len into.old + 114 ≤ TEXT }
-    ensures text { into.new.items ≡ into.old.items ++ reference_lines causes.now }
-    ensures len { array_vec_len into.new ≤ array_vec_len into.old + 114 }
+#[tactic(auto, unfolding(crate::specs::Alarms::reference_line))]
+fn append_reference(into: &mut ArrayVec<u8, TEXT>, i: u64, word: &[u8])
+    requires word { length word.now ≤ 6 }
+    requires room { array_vec_len into.old + 38 ≤ TEXT }
+    ensures text { into.new.items ≡ into.old.items ++ reference_line i word.now }
+    ensures len { array_vec_len into.new ≤ array_vec_len into.old + 38 }
 {
-    append_cause(into, 0, causes[0]);
-    append_cause(into, 1, causes[1]);
-    append_cause(into, 2, causes[2]);
+    append(into, b"alarm ref ");
+    append_decimal(into, i);
+    append(into, b" ");
+    append(into, word);
+    append(into, b"\n");
+}
+
+#[tactic(auto, unfolding(crate::specs::Alarms::sensor_lines))]
+fn append_sensors(into: &mut ArrayVec<u8, TEXT>, alarms: &Alarms)
+    requires { array_vec_len into.old + 34 ≤ TEXT }
+    ensures text { into.new.items ≡ into.old.items ++ sensor_lines alarms.now }
+    ensures len { array_vec_len into.new ≤ array_vec_len into.old + 34 }
+{
+    append_alarm(into, alarms.blind, b"blind");
+    append_alarm(into, alarms.gyro, b"gyro");
+    append_alarm(into, alarms.wind, b"wind");
+}
+
+/// Appends the line of an alarm, if it is raised.
+#[tactic(auto, unfolding(crate::specs::Alarms::alarm_line))]
+fn append_alarm(into: &mut ArrayVec<u8, TEXT>, raised: bool, words: &[u8])
+    requires { array_vec_len into.old + length words.now + 7 ≤ TEXT }
+    ensures text { into.new.items ≡ into.old.items ++ alarm_line raised words.now }
+    ensures len { array_vec_len into.new ≤ array_vec_len into.old + length words.now + 7 }
+{
+    if raised {
+        append(into, b"alarm ");
+        append(into, words);
+        append(into, b"\n");
+    }
+}
+
+#[tactic(auto, unfolding(crate::specs::Alarms::limit_lines))]
+fn append_limits(into: &mut ArrayVec<u8, TEXT>, limited: &[bool; 3])
+    requires { array_vec_len into.old + 51 ≤ TEXT }
+    ensures text { into.new.items ≡ into.old.items ++ limit_lines limited.now }
+    ensures len { array_vec_len into.new ≤ array_vec_len into.old + 51 }
+{
+    append_alarm(into, limited[0], b"limit surge");
+    append_alarm(into, limited[1], b"limit sway");
+    append_alarm(into, limited[2], b"limit yaw");
+}
+
+#[tactic(auto, unfolding(crate::specs::Alarms::demand_lines))]
+fn append_demands(into: &mut ArrayVec<u8, TEXT>, alarms: &Alarms)
+    requires { array_vec_len into.old + 376 ≤ TEXT }
+    ensures { into.new.items ≡ into.old.items ++ demand_lines alarms.now }
+{
+    append_limits(into, &alarms.limited);
+    append_alarm(into, alarms.nocase, b"nocase");
+    append_consequences(into, alarms.lost);
+}
+
+/// Appends the lines of the wires with damage, in the order of the wires.
+#[tactic(auto, unfolding(crate::specs::Alarms::damage_lines))]
+fn append_damage(into: &mut ArrayVec<u8, TEXT>, mask: u32)
+    requires { array_vec_len into.old + 663 ≤ TEXT }
+    ensures text { into.new.items ≡ into.old.items ++ damage_lines mask }
+    ensures len { array_vec_len into.new ≤ array_vec_len into.old + 663 }
+{
+    append_numbered(into, b"damage pos", mask, 0, 3);
+    append_numbered(into, b"damage gyro", mask, 3, 3);
+    append_numbered(into, b"damage wind", mask, 6, 3);
+    append_numbered(into, b"damage grp", mask, 9, 8);
+}
+
+/// Appends the lines of `count` things of a kind, of which bit `first` of the mask is the first.
+fn append_numbered(into: &mut ArrayVec<u8, TEXT>, words: &[u8], mask: u32, first: u32, count: u32)
+    requires words { length words.now ≤ 12 }
+    requires bits { first + count ≤ 32 }
+    requires room { array_vec_len into.old + 39 * count ≤ TEXT }
+    ensures text { into.new.items ≡ into.old.items ++ numbered_lines words.now mask first count }
+    ensures len { array_vec_len into.new ≤ array_vec_len into.old + 39 * count }
+{
+    for k in 0..count {
+        append_numbered_line(into, is_set(mask, first + k), words, u64::from(k));
+    }
 }
 
 /// Bit `i` of a mask is set.
@@ -126,54 +184,6 @@ fn append_numbered_line(into: &mut ArrayVec<u8, TEXT>, raised: bool, words: &[u8
     }
 }
 
-/// Appends the lines of `count` things of a kind, of which bit `first` of the mask is the first.
-fn append_numbered(into: &mut ArrayVec<u8, TEXT>, words: &[u8], mask: u32, first: u32, count: u32)
-    requires words { length words.now ≤ 12 }
-    requires bits { first + count ≤ 32 }
-    requires room { array_vec_len into.old + 39 * count ≤ TEXT }
-    ensures text { into.new.items ≡ into.old.items ++ numbered_lines words.now mask first count }
-    ensures len { array_vec_len into.new ≤ array_vec_len into.old + 39 * count }
-{
-    for k in 0..count {
-        append_numbered_line(into, is_set(mask, first + k), words, u64::from(k));
-    }
-}
-
-/// Appends the lines of the wires with damage, in the order of the wires.
-#[tactic(auto, unfolding(crate::specs::Alarms::damage_lines))]
-fn append_damage(into: &mut ArrayVec<u8, TEXT>, mask: u32)
-    requires { array_vec_len into.old + 663 ≤ TEXT }
-    ensures text { into.new.items ≡ into.old.items ++ damage_lines mask }
-    ensures len { array_vec_len into.new ≤ array_vec_len into.old + 663 }
-{
-    append_numbered(into, b"damage pos", mask, 0, 3);
-    append_numbered(into, b"damage gyro", mask, 3, 3);
-    append_numbered(into, b"damage wind", mask, 6, 3);
-    append_numbered(into, b"damage grp", mask, 9, 8);
-}
-
-#[tactic(auto, unfolding(crate::specs::Alarms::sensor_lines))]
-fn append_sensors(into: &mut ArrayVec<u8, TEXT>, alarms: &Alarms)
-    requires { array_vec_len into.old + 34 ≤ TEXT }
-    ensures text { into.new.items ≡ into.old.items ++ sensor_lines alarms.now }
-    ensures len { array_vec_len into.new ≤ array_vec_len into.old + 34 }
-{
-    append_alarm(into, alarms.blind, b"blind");
-    append_alarm(into, alarms.gyro, b"gyro");
-    append_alarm(into, alarms.wind, b"wind");
-}
-
-#[tactic(auto, unfolding(crate::specs::Alarms::limit_lines))]
-fn append_limits(into: &mut ArrayVec<u8, TEXT>, limited: &[bool; 3])
-    requires { array_vec_len into.old + 51 ≤ TEXT }
-    ensures text { into.new.items ≡ into.old.items ++ limit_lines limited.now }
-    ensures len { array_vec_len into.new ≤ array_vec_len into.old + 51 }
-{
-    append_alarm(into, limited[0], b"limit surge");
-    append_alarm(into, limited[1], b"limit sway");
-    append_alarm(into, limited[2], b"limit yaw");
-}
-
 /// Appends the lines of the groups whose loss would not be survived.
 #[tactic(auto, unfolding(crate::specs::Alarms::consequence_lines))]
 fn append_consequences(into: &mut ArrayVec<u8, TEXT>, lost: u8)
@@ -182,14 +192,4 @@ fn append_consequences(into: &mut ArrayVec<u8, TEXT>, lost: u8)
     ensures len { array_vec_len into.new ≤ array_vec_len into.old + 312 }
 {
     append_numbered(into, b"consequence ", u32::from(lost), 0, 8);
-}
-
-#[tactic(auto, unfolding(crate::specs::Alarms::demand_lines))]
-fn append_demands(into: &mut ArrayVec<u8, TEXT>, alarms: &Alarms)
-    requires { array_vec_len into.old + 376 ≤ TEXT }
-    ensures { into.new.items ≡ into.old.items ++ demand_lines alarms.now }
-{
-    append_limits(into, &alarms.limited);
-    append_alarm(into, alarms.nocase, b"nocase");
-    append_consequences(into, alarms.lost);
 }

@@ -42,6 +42,3 @@ pub use block::{Block, write_block};
 
 /// Room for the text of a cycle.
 const TEXT: usize = 4096;
-
-#[cfg(test)]
-mod tests;

@@ -13,27 +13,6 @@ use dp_text::{append, append_decimal, append_number};
 /// Room for the longest line.
 pub const LINE: usize = 128;
 
-/// `L`, `A` or `O`.
-fn letter(mode: Mode) -> u8
-    ensures { result ≡ mode_letter mode }
-{
-    match mode {
-        Mode::Live => b'L',
-        Mode::Aligning => b'A',
-        Mode::Off => b'O',
-    }
-}
-
-fn append_letters(line: &mut ArrayVec<u8, LINE>, modes: &[Mode])
-    requires { array_vec_len line.old + length modes.now ≤ LINE }
-    ensures text { line.new.items ≡ line.old.items ++ map mode_letter modes.now }
-    ensures len { array_vec_len line.new ≡ array_vec_len line.old + length modes.now }
-{
-    for mode in modes {
-        line.push(letter(*mode));
-    }
-}
-
 /// The line of a cycle, and how each computer takes part in it.
 #[tactic(auto, unfolding(crate::specs::Text::cycle_line))]
 pub fn cycle_line(cycle: u64, modes: &[Mode; 3]) -> ArrayVec<u8, LINE>
@@ -49,49 +28,24 @@ pub fn cycle_line(cycle: u64, modes: &[Mode; 3]) -> ArrayVec<u8, LINE>
     line
 }
 
-fn append_forced(line: &mut ArrayVec<u8, LINE>, letter: &[u8], force: i64)
-    requires { array_vec_len line.old + length letter.now + 20 ≤ LINE }
-    ensures text { line.new.items ≡ line.old.items ++ (letter.now ++ signed_decimal force) }
-    ensures len { array_vec_len line.new ≤ array_vec_len line.old + length letter.now + 20 }
+fn append_letters(line: &mut ArrayVec<u8, LINE>, modes: &[Mode])
+    requires { array_vec_len line.old + length modes.now ≤ LINE }
+    ensures text { line.new.items ≡ line.old.items ++ map mode_letter modes.now }
+    ensures len { array_vec_len line.new ≡ array_vec_len line.old + length modes.now }
 {
-    append(line, letter);
-    append_number(line, force);
-}
-
-/// A ballot's letter and its force.
-#[tactic(auto, unfolding(crate::specs::Text::ballot_text))]
-fn append_ballot(line: &mut ArrayVec<u8, LINE>, ballot: Ballot)
-    requires { array_vec_len line.old + 23 ≤ LINE }
-    ensures text { line.new.items ≡ line.old.items ++ ballot_text ballot }
-    ensures len { array_vec_len line.new ≤ array_vec_len line.old + 23 }
-{
-    match ballot {
-        Ballot::Fresh(force) => append_forced(line, b" F ", force),
-        Ballot::Held(force) => append_forced(line, b" H ", force),
-        Ballot::Zero => append(line, b" Z 0"),
+    for mode in modes {
+        line.push(letter(*mode));
     }
 }
 
-/// An order's force, or a dash where there is none.
-#[tactic(auto, unfolding(crate::specs::Text::order_text))]
-fn append_order(line: &mut ArrayVec<u8, LINE>, order: Option<i64>)
-    requires { array_vec_len line.old + 21 ≤ LINE }
-    ensures text { line.new.items ≡ line.old.items ++ order_text order }
-    ensures len { array_vec_len line.new ≤ array_vec_len line.old + 21 }
+/// `L`, `A` or `O`.
+fn letter(mode: Mode) -> u8
+    ensures { result ≡ mode_letter mode }
 {
-    match order {
-        Some(force) => append_forced(line, b" ", force),
-        None => append(line, b" -"),
-    }
-}
-
-fn append_orders(line: &mut ArrayVec<u8, LINE>, orders: &[Option<i64>])
-    requires { array_vec_len line.old + 21 * length orders.now ≤ LINE }
-    ensures text { line.new.items ≡ line.old.items ++ flat_map order_text orders.now }
-    ensures len { array_vec_len line.new ≤ array_vec_len line.old + 21 * length orders.now }
-{
-    for order in orders {
-        append_order(line, *order);
+    match mode {
+        Mode::Live => b'L',
+        Mode::Aligning => b'A',
+        Mode::Off => b'O',
     }
 }
 
@@ -108,4 +62,50 @@ pub fn thruster_line(k: u64, ballot: Ballot, orders: &[Option<i64>; 3]) -> Array
     append_orders(&mut line, orders);
     append(&mut line, b"\n");
     line
+}
+
+/// A ballot's letter and its force.
+#[tactic(auto, unfolding(crate::specs::Text::ballot_text))]
+fn append_ballot(line: &mut ArrayVec<u8, LINE>, ballot: Ballot)
+    requires { array_vec_len line.old + 23 ≤ LINE }
+    ensures text { line.new.items ≡ line.old.items ++ ballot_text ballot }
+    ensures len { array_vec_len line.new ≤ array_vec_len line.old + 23 }
+{
+    match ballot {
+        Ballot::Fresh(force) => append_forced(line, b" F ", force),
+        Ballot::Held(force) => append_forced(line, b" H ", force),
+        Ballot::Zero => append(line, b" Z 0"),
+    }
+}
+
+fn append_forced(line: &mut ArrayVec<u8, LINE>, letter: &[u8], force: i64)
+    requires { array_vec_len line.old + length letter.now + 20 ≤ LINE }
+    ensures text { line.new.items ≡ line.old.items ++ (letter.now ++ signed_decimal force) }
+    ensures len { array_vec_len line.new ≤ array_vec_len line.old + length letter.now + 20 }
+{
+    append(line, letter);
+    append_number(line, force);
+}
+
+fn append_orders(line: &mut ArrayVec<u8, LINE>, orders: &[Option<i64>])
+    requires { array_vec_len line.old + 21 * length orders.now ≤ LINE }
+    ensures text { line.new.items ≡ line.old.items ++ flat_map order_text orders.now }
+    ensures len { array_vec_len line.new ≤ array_vec_len line.old + 21 * length orders.now }
+{
+    for order in orders {
+        append_order(line, *order);
+    }
+}
+
+/// An order's force, or a dash where there is none.
+#[tactic(auto, unfolding(crate::specs::Text::order_text))]
+fn append_order(line: &mut ArrayVec<u8, LINE>, order: Option<i64>)
+    requires { array_vec_len line.old + 21 ≤ LINE }
+    ensures text { line.new.items ≡ line.old.items ++ order_text order }
+    ensures len { array_vec_len line.new ≤ array_vec_len line.old + 21 }
+{
+    match order {
+        Some(force) => append_forced(line, b" ", force),
+        None => append(line, b" -"),
+    }
 }

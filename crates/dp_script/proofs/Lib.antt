@@ -6,3 +6,4 @@ pub mod Reading
 pub mod Spans
 pub mod MadeLines
 pub mod Making
+pub mod WrittenLines

@@ -8,6 +8,7 @@ pub mod Drafts
 pub mod Generator
 pub mod Made
 pub mod Left
+pub mod Written
 pub use Rattle.dp_script.specs.Acts.{IsWithin, usual_acts}
 pub use Rattle.dp_script.specs.Commands.{command_of, phrase_of, phrase_of_parts, signed_of, verb_of, whole_of}
 pub use Rattle.dp_script.specs.Entries.{IsGiven, acts_of, below_of, entry_of, near_of}
@@ -17,3 +18,4 @@ pub use Rattle.dp_script.specs.Drafts.{IsDraftOf, IsPassed}
 pub use Rattle.dp_script.specs.Generator.{draw_at, drawn, number_of, state_after}
 pub use Rattle.dp_script.specs.Made.{draws_at, heading_body, heading_line, joined, line_at, lines_from, made, made_lines, place_line, wind_body, wind_line, wire_line}
 pub use Rattle.dp_script.specs.Left.{lines_left}
+pub use Rattle.dp_script.specs.Written.{LineIsWritten, Says, WriteAll, numbers_of, word_of}

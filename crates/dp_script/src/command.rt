@@ -42,6 +42,34 @@ pub struct Phrase {
     pub command: Command,
 }
 
+/// What a line says, before any number's range is looked at.
+#[tactic(auto, unfolding(crate::specs::Commands::phrase_of))]
+pub fn phrase_read(line: &[u8]) -> Result<Phrase, ScriptKind>
+    ensures { result ≡ phrase_of line.now }
+{
+    if line.len() > LONGEST {
+        return Err(ScriptKind::Verb);
+    }
+    let Some(parts) = split_parts::<PARTS>(line) else {
+        return Err(ScriptKind::Verb);
+    };
+    parts_read(parts.as_slice())
+}
+
+/// What the parts of a line say.
+#[tactic(auto, unfolding(crate::specs::Commands::phrase_of_parts))]
+fn parts_read(parts: &[&[u8]]) -> Result<Phrase, ScriptKind>
+    ensures { result ≡ phrase_of_parts (texts_of parts.now) }
+{
+    let [cycle, word, arguments @ ..] = parts else {
+        return Err(ScriptKind::Verb);
+    };
+    let verb = verb_named(word).ok_or(ScriptKind::Verb)?;
+    let command = command_read(verb, arguments)?;
+    let cycle = whole(cycle)?;
+    Ok(Phrase { cycle, command })
+}
+
 /// The verb of a word.
 fn verb_named(word: &[u8]) -> Option<Verb>
     ensures { result ≡ verb_of word.now }
@@ -63,20 +91,6 @@ fn verb_named(word: &[u8]) -> Option<Verb>
     } else {
         None
     }
-}
-
-/// A number without a sign.
-fn whole(text: &[u8]) -> Result<u64, ScriptKind>
-    ensures { result ≡ whole_of text.now }
-{
-    decimal(text, 18).ok_or(ScriptKind::Number)
-}
-
-/// A number that may be below zero.
-fn signed(text: &[u8]) -> Result<i64, ScriptKind>
-    ensures { result ≡ signed_of text.now }
-{
-    number(text).ok_or(ScriptKind::Number)
 }
 
 /// What a verb says with its arguments.
@@ -107,30 +121,16 @@ fn command_read(verb: Verb, arguments: &[&[u8]]) -> Result<Command, ScriptKind>
     })
 }
 
-/// What the parts of a line say.
-#[tactic(auto, unfolding(crate::specs::Commands::phrase_of_parts))]
-fn parts_read(parts: &[&[u8]]) -> Result<Phrase, ScriptKind>
-    ensures { result ≡ phrase_of_parts (texts_of parts.now) }
+/// A number without a sign.
+fn whole(text: &[u8]) -> Result<u64, ScriptKind>
+    ensures { result ≡ whole_of text.now }
 {
-    let [cycle, word, arguments @ ..] = parts else {
-        return Err(ScriptKind::Verb);
-    };
-    let verb = verb_named(word).ok_or(ScriptKind::Verb)?;
-    let command = command_read(verb, arguments)?;
-    let cycle = whole(cycle)?;
-    Ok(Phrase { cycle, command })
+    decimal(text, 18).ok_or(ScriptKind::Number)
 }
 
-/// What a line says, before any number's range is looked at.
-#[tactic(auto, unfolding(crate::specs::Commands::phrase_of))]
-pub fn phrase_read(line: &[u8]) -> Result<Phrase, ScriptKind>
-    ensures { result ≡ phrase_of line.now }
+/// A number that may be below zero.
+fn signed(text: &[u8]) -> Result<i64, ScriptKind>
+    ensures { result ≡ signed_of text.now }
 {
-    if line.len() > LONGEST {
-        return Err(ScriptKind::Verb);
-    }
-    let Some(parts) = split_parts::<PARTS>(line) else {
-        return Err(ScriptKind::Verb);
-    };
-    parts_read(parts.as_slice())
+    number(text).ok_or(ScriptKind::Number)
 }

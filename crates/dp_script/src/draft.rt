@@ -27,15 +27,6 @@ pub struct Draft {
     last: u64,
 }
 
-fn is_skipped(line: &[u8]) -> bool
-    ensures { result ≡ Faults.is_skipped line.now }
-{
-    match line {
-        [] => true,
-        [first, ..] => *first == b'#',
-    }
-}
-
 impl Draft {
     /// A draft of no lines.
     #[tactic(auto, unfolding(crate::specs::Faults::first_fault))]
@@ -49,6 +40,36 @@ impl Draft {
             number: 0,
             count: 0,
             last: 0,
+        }
+    }
+
+    /// Hears a line: enters what it says, or names its fault.
+    pub fn hear(&mut self, line: &[u8]) -> Result<(), ScriptFault>
+        requires passed { IsPassed self.old }
+        requires room { self.old.number < 2 ^ 63 }
+        ensures passed { OnOk result (IsPassed self.new) }
+        ensures number { OnOk result (self.new.number ≡ self.old.number + 1) }
+        ensures script { OnOk result
+            (self.new.script ≡ self.old.script ++ timed_acts_by (line.now ∷ [])) }
+        ensures heard { OnOk result
+            ((before : List (List ℕ)) → IsDraftOf self.old before
+            → IsDraftOf self.new (line.now ∷ before)) }
+        ensures fault { IfErr result (λ fault. fault ≢ Memory → (before : List (List ℕ)) → IsDraftOf self.old before
+            → first_fault (line.now ∷ before) ≡ Some fault) }
+    {
+        match self.judge(line) {
+            Ok(None) => {
+                self.number += 1;
+                Ok(())
+            }
+            Ok(Some(entry)) => {
+                self.enter(entry)?;
+                Ok(())
+            }
+            Err(kind) => Err(ScriptFault::Line {
+                line: self.number + 1,
+                kind,
+            }),
         }
     }
 
@@ -96,40 +117,19 @@ impl Draft {
         Ok(())
     }
 
-    /// Hears a line: enters what it says, or names its fault.
-    pub fn hear(&mut self, line: &[u8]) -> Result<(), ScriptFault>
-        requires passed { IsPassed self.old }
-        requires room { self.old.number < 2 ^ 63 }
-        ensures passed { OnOk result (IsPassed self.new) }
-        ensures number { OnOk result (self.new.number ≡ self.old.number + 1) }
-        ensures script { OnOk result
-            (self.new.script ≡ self.old.script ++ timed_acts_by (line.now ∷ [])) }
-        ensures heard { OnOk result
-            ((before : List (List ℕ)) → IsDraftOf self.old before
-            → IsDraftOf self.new (line.now ∷ before)) }
-        ensures fault { IfErr result (λ fault. fault ≢ Memory → (before : List (List ℕ)) → IsDraftOf self.old before
-            → first_fault (line.now ∷ before) ≡ Some fault) }
-    {
-        match self.judge(line) {
-            Ok(None) => {
-                self.number += 1;
-                Ok(())
-            }
-            Ok(Some(entry)) => {
-                self.enter(entry)?;
-                Ok(())
-            }
-            Err(kind) => Err(ScriptFault::Line {
-                line: self.number + 1,
-                kind,
-            }),
-        }
-    }
-
     /// The script of the lines.
     pub fn into_script(self) -> Script
         ensures { result ≡ self.script }
     {
         self.script
+    }
+}
+
+fn is_skipped(line: &[u8]) -> bool
+    ensures { result ≡ Faults.is_skipped line.now }
+{
+    match line {
+        [] => true,
+        [first, ..] => *first == b'#',
     }
 }

@@ -30,28 +30,17 @@ pub struct Entry {
     pub acts: Acts,
 }
 
-/// A number below a limit.
-fn below(number: u64, limit: u8) -> Result<u8, ScriptKind>
-    ensures value { result ≡ below_of limit number }
-    ensures bound { IfOk result (λ n. n < limit) }
+/// What a line says that isn't skipped, judged alone.
+#[tactic(auto, unfolding(crate::specs::Entries::entry_of))]
+pub fn entry_read(line: &[u8]) -> Result<Entry, ScriptKind>
+    ensures value { result ≡ entry_of line.now }
+    ensures within { IfOk result (λ entry. IsGiven entry.acts) }
+    ensures bound { IfOk result (λ entry. entry.cycle < 2 ^ 20) }
 {
-    if number < u64::from(limit) {
-        Ok(number as u8)
-    } else {
-        Err(ScriptKind::Range)
-    }
-}
-
-/// A number at most a limit away from zero.
-fn near(number: i64, limit: u64) -> Result<i64, ScriptKind>
-    ensures value { result ≡ near_of limit number }
-    ensures bound { IfOk result (λ n. unsigned_abs n ≤ limit) }
-{
-    if number.unsigned_abs() <= limit {
-        Ok(number)
-    } else {
-        Err(ScriptKind::Range)
-    }
+    let said = phrase_read(line)?;
+    let acts = acts_read(said.command)?;
+    let cycle = cycle(said.cycle)?;
+    Ok(Entry { cycle, acts })
 }
 
 /// The acts of a command whose numbers are within their ranges.
@@ -87,6 +76,30 @@ fn acts_read(command: Command) -> Result<Acts, ScriptKind>
     }))
 }
 
+/// A number below a limit.
+fn below(number: u64, limit: u8) -> Result<u8, ScriptKind>
+    ensures value { result ≡ below_of limit number }
+    ensures bound { IfOk result (λ n. n < limit) }
+{
+    if number < u64::from(limit) {
+        Ok(number as u8)
+    } else {
+        Err(ScriptKind::Range)
+    }
+}
+
+/// A number at most a limit away from zero.
+fn near(number: i64, limit: u64) -> Result<i64, ScriptKind>
+    ensures value { result ≡ near_of limit number }
+    ensures bound { IfOk result (λ n. unsigned_abs n ≤ limit) }
+{
+    if number.unsigned_abs() <= limit {
+        Ok(number)
+    } else {
+        Err(ScriptKind::Range)
+    }
+}
+
 /// A cycle below 2^20.
 fn cycle(number: u64) -> Result<u64, ScriptKind>
     ensures value { result ≡ below_of (2 ^ 20) number }
@@ -97,17 +110,4 @@ fn cycle(number: u64) -> Result<u64, ScriptKind>
     } else {
         Err(ScriptKind::Range)
     }
-}
-
-/// What a line says that isn't skipped, judged alone.
-#[tactic(auto, unfolding(crate::specs::Entries::entry_of))]
-pub fn entry_read(line: &[u8]) -> Result<Entry, ScriptKind>
-    ensures value { result ≡ entry_of line.now }
-    ensures within { IfOk result (λ entry. IsGiven entry.acts) }
-    ensures bound { IfOk result (λ entry. entry.cycle < 2 ^ 20) }
-{
-    let said = phrase_read(line)?;
-    let acts = acts_read(said.command)?;
-    let cycle = cycle(said.cycle)?;
-    Ok(Entry { cycle, acts })
 }

@@ -31,7 +31,8 @@
 //! 4. `Order`: the cycle is less than that of the last line before it that wasn't skipped.
 //!
 //! `specs/` has this as definitions on the whole text: what a line says (`Commands`, `Entries`), the first faulty line, each judged with
-//! the lines before it (`Faults`), and the acts of a cycle (`TimedActs`). `Script::of` reads the bytes once; `len` and `act` search for the
+//! the lines before it (`Faults`), and the acts of a cycle (`TimedActs`). [`laws`] says that what is read of a line is what the line was
+//! written from (`Written`). `Script::of` reads the bytes once; `len` and `act` search for the
 //! cycle and take no memory.
 //!
 //! # Made records
@@ -62,6 +63,7 @@ mod draft;
 mod entry;
 mod fault;
 mod generator;
+pub mod laws;
 mod made_line;
 mod maker;
 mod script;
@@ -72,6 +74,3 @@ pub use act::{Act, P2};
 pub use fault::{ScriptFault, ScriptKind};
 pub use maker::{Maker, make};
 pub use script::Script;
-
-#[cfg(test)]
-mod tests;

@@ -45,6 +45,64 @@ pub(crate) fn write_line(
     }
 }
 
+#[tactic(auto, unfolding(crate::specs::Made::place_line))]
+fn write_place(into: &mut ArrayVec<u8, LINE>, second: u64, i: u64, north: u64, east: u64)
+    requires { second < 2 ^ 32 }
+    ensures { into.new.items ≡ made.place_line second i north east }
+{
+    let mut said = ArrayVec::new();
+    append(&mut said, b"L ");
+    append_number(&mut said, coordinate(north));
+    append(&mut said, b" ");
+    append_number(&mut said, coordinate(east));
+    write_wire(into, second, b" pos", i, &said);
+}
+
+/// A coordinate in millimetres, from -500 to 500.
+fn coordinate(draw: u64) -> i64
+    ensures { result ≡ made.coordinate_of draw }
+{
+    (draw % 1001) as i64 - 500
+}
+
+#[tactic(auto, unfolding(crate::specs::Made::heading_line))]
+fn write_heading(into: &mut ArrayVec<u8, LINE>, second: u64, i: u64, draw: u64)
+    requires { second < 2 ^ 32 }
+    ensures { into.new.items ≡ made.heading_line second i draw }
+{
+    write_wire(into, second, b" gyro", i, &closed(&heading_body(draw)));
+}
+
+#[tactic(auto, unfolding(crate::specs::Made::heading_body))]
+fn heading_body(draw: u64) -> ArrayVec<u8, BODY>
+    ensures { result.items ≡ made.heading_body draw }
+{
+    let mut body = ArrayVec::new();
+    append(&mut body, b"HEHDT,000.");
+    append_decimal(&mut body, draw % 10);
+    append(&mut body, b",T");
+    body
+}
+
+#[tactic(auto, unfolding(crate::specs::Made::wind_line))]
+fn write_wind(into: &mut ArrayVec<u8, LINE>, second: u64, i: u64, draw: u64)
+    requires { second < 2 ^ 32 }
+    ensures { into.new.items ≡ made.wind_line second i draw }
+{
+    write_wire(into, second, b" wind", i, &closed(&wind_body(draw)));
+}
+
+#[tactic(auto, unfolding(crate::specs::Made::wind_body))]
+fn wind_body(draw: u64) -> ArrayVec<u8, BODY>
+    ensures { result.items ≡ made.wind_body draw }
+{
+    let mut body = ArrayVec::new();
+    append(&mut body, b"WIMWV,045.0,R,0");
+    append_decimal(&mut body, draw % 10);
+    append(&mut body, b".0,M,A");
+    body
+}
+
 /// Replaces the content by a wire's line.
 #[tactic(auto, unfolding(crate::specs::Made::wire_line))]
 fn write_wire(
@@ -67,62 +125,17 @@ fn write_wire(
     append(into, b"\n");
 }
 
-/// A coordinate in millimetres, from -500 to 500.
-fn coordinate(draw: u64) -> i64
-    ensures { result ≡ made.coordinate_of draw }
+/// The sentence of a body: `$`, the body, `*` and the two digits of its checksum.
+#[tactic(auto, unfolding(dp_sentence::specs::Written::closed))]
+fn closed(body: &ArrayVec<u8, BODY>) -> ArrayVec<u8, SAID>
+    ensures { result.items ≡ closed body.now.items }
 {
-    (draw % 1001) as i64 - 500
-}
-
-#[tactic(auto, unfolding(crate::specs::Made::place_line))]
-fn write_place(into: &mut ArrayVec<u8, LINE>, second: u64, i: u64, north: u64, east: u64)
-    requires { second < 2 ^ 32 }
-    ensures { into.new.items ≡ made.place_line second i north east }
-{
-    let mut said = ArrayVec::new();
-    append(&mut said, b"L ");
-    append_number(&mut said, coordinate(north));
-    append(&mut said, b" ");
-    append_number(&mut said, coordinate(east));
-    write_wire(into, second, b" pos", i, &said);
-}
-
-#[tactic(auto, unfolding(crate::specs::Made::heading_body))]
-fn heading_body(draw: u64) -> ArrayVec<u8, BODY>
-    ensures { result.items ≡ made.heading_body draw }
-{
-    let mut body = ArrayVec::new();
-    append(&mut body, b"HEHDT,000.");
-    append_decimal(&mut body, draw % 10);
-    append(&mut body, b",T");
-    body
-}
-
-#[tactic(auto, unfolding(crate::specs::Made::heading_line))]
-fn write_heading(into: &mut ArrayVec<u8, LINE>, second: u64, i: u64, draw: u64)
-    requires { second < 2 ^ 32 }
-    ensures { into.new.items ≡ made.heading_line second i draw }
-{
-    write_wire(into, second, b" gyro", i, &closed(&heading_body(draw)));
-}
-
-#[tactic(auto, unfolding(crate::specs::Made::wind_body))]
-fn wind_body(draw: u64) -> ArrayVec<u8, BODY>
-    ensures { result.items ≡ made.wind_body draw }
-{
-    let mut body = ArrayVec::new();
-    append(&mut body, b"WIMWV,045.0,R,0");
-    append_decimal(&mut body, draw % 10);
-    append(&mut body, b".0,M,A");
-    body
-}
-
-#[tactic(auto, unfolding(crate::specs::Made::wind_line))]
-fn write_wind(into: &mut ArrayVec<u8, LINE>, second: u64, i: u64, draw: u64)
-    requires { second < 2 ^ 32 }
-    ensures { into.new.items ≡ made.wind_line second i draw }
-{
-    write_wire(into, second, b" wind", i, &closed(&wind_body(draw)));
+    let sum = checksum(body);
+    let mut sentence = ArrayVec::new();
+    append(&mut sentence, b"$");
+    append(&mut sentence, body);
+    append(&mut sentence, &[b'*', digit(sum / 16), digit(sum % 16)]);
+    sentence
 }
 
 /// The exclusive-or of all bytes.
@@ -147,17 +160,4 @@ fn digit(number: u8) -> u8
     } else {
         b'A' - 10 + number
     }
-}
-
-/// The sentence of a body: `$`, the body, `*` and the two digits of its checksum.
-#[tactic(auto, unfolding(dp_sentence::specs::Written::closed))]
-fn closed(body: &ArrayVec<u8, BODY>) -> ArrayVec<u8, SAID>
-    ensures { result.items ≡ closed body.now.items }
-{
-    let sum = checksum(body);
-    let mut sentence = ArrayVec::new();
-    append(&mut sentence, b"$");
-    append(&mut sentence, body);
-    append(&mut sentence, &[b'*', digit(sum / 16), digit(sum % 16)]);
-    sentence
 }

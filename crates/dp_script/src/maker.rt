@@ -73,6 +73,3 @@ pub fn make<K: Sink>(number: u32, out: &mut K) -> Result<(), Trouble>
     }
     Ok(())
 }
-
-#[cfg(test)]
-mod tests;

@@ -34,112 +34,6 @@ impl Model for Script {
 }
 
 impl Script {
-    /// A script that names no cycle.
-    pub(crate) fn new(alloc: Global) -> Script
-        ensures { result ≡ [] }
-    {
-        Script {
-            timed_acts: Vec::new(alloc),
-        }
-    }
-
-    /// Adds an act of a cycle that isn't before those that are there.
-    fn push(&mut self, timed_act: TimedAct) -> Result<(), AllocError>
-        requires order { All (λ earlier. earlier.cycle ≤ timed_act.cycle) self.old }
-        requires within { IsWithin timed_act.act }
-        ensures ok { OnOk result (self.new ≡ self.old ++ timed_act ∷ []) }
-    {
-        self.timed_acts.push(timed_act)?;
-        Ok(())
-    }
-
-    /// Adds the usual acts of a cycle that isn't before those that are there.
-    fn push_usual(&mut self, cycle: u64) -> Result<(), AllocError>
-        requires order { All (λ earlier. earlier.cycle ≤ cycle) self.old }
-        ensures ok { OnOk result (self.new ≡ self.old ++ timed_acts_with cycle usual_acts) }
-    {
-        for i in 0..USUAL {
-            self.push(TimedAct {
-                cycle,
-                act: usual(i),
-            })?;
-        }
-        Ok(())
-    }
-
-    /// Adds the acts of an entry whose cycle isn't before those that are there.
-    pub(crate) fn enter(&mut self, entry: Entry) -> Result<(), AllocError>
-        requires order { All (λ earlier. earlier.cycle ≤ entry.cycle) self.old }
-        requires within { IsGiven entry.acts }
-        ensures ok { OnOk result (self.new ≡ self.old ++ timed_acts_of entry) }
-    {
-        match entry.acts {
-            Acts::Usual => self.push_usual(entry.cycle),
-            Acts::One(act) => self.push(TimedAct {
-                cycle: entry.cycle,
-                act,
-            }),
-        }
-    }
-}
-
-/// How many timed acts are before a cycle.
-fn count_before(timed_acts: &[TimedAct], cycle: u64) -> usize
-    requires { IsNonDecreasingBy (λ (timed_act : TimedAct). timed_act.cycle) timed_acts.now }
-    ensures bound { result ≤ length timed_acts.now }
-    ensures below { AllWithin (λ timed_act. timed_act.cycle < cycle) timed_acts.now 0 result }
-    ensures rest { AllWithin
-        (λ timed_act. cycle ≤ timed_act.cycle) timed_acts.now result (length timed_acts.now) }
-{
-    timed_acts.partition_point(|timed_act| timed_act.cycle < cycle)
-}
-
-/// How many timed acts are not after a cycle.
-fn count_through(timed_acts: &[TimedAct], cycle: u64) -> usize
-    requires { IsNonDecreasingBy (λ (timed_act : TimedAct). timed_act.cycle) timed_acts.now }
-    ensures bound { result ≤ length timed_acts.now }
-    ensures below { AllWithin (λ timed_act. timed_act.cycle ≤ cycle) timed_acts.now 0 result }
-    ensures rest { AllWithin
-        (λ timed_act. cycle < timed_act.cycle) timed_acts.now result (length timed_acts.now) }
-{
-    timed_acts.partition_point(|timed_act| timed_act.cycle <= cycle)
-}
-
-/// Where the timed acts of a cycle begin and end.
-fn span(timed_acts: &[TimedAct], cycle: u64) -> (usize, usize)
-    requires { IsNonDecreasingBy (λ (timed_act : TimedAct). timed_act.cycle) timed_acts.now }
-    ensures order { result.0 ≤ result.1 }
-    ensures bound { result.1 ≤ length timed_acts.now }
-    ensures timed_acts { take (result.1 - result.0) (drop result.0 timed_acts.now)
-        ≡ filter (λ timed_act. timed_act.cycle == cycle) timed_acts.now }
-{
-    (
-        count_before(timed_acts, cycle),
-        count_through(timed_acts, cycle),
-    )
-}
-
-/// The timed acts of a cycle.
-fn named(timed_acts: &[TimedAct], cycle: u64) -> &[TimedAct]
-    requires { IsNonDecreasingBy (λ (timed_act : TimedAct). timed_act.cycle) timed_acts.now }
-    ensures { result.now ≡ filter (λ timed_act. timed_act.cycle == cycle) timed_acts.now }
-{
-    let (start, end) = span(timed_acts, cycle);
-    &timed_acts[start..end]
-}
-
-/// The act of an timed act, by its place.
-fn act_at(timed_acts: &[TimedAct], i: usize) -> Act
-    requires place { i < length timed_acts.now }
-    requires within { All (λ timed_act. IsWithin timed_act.act) timed_acts.now }
-    ensures value { slice_get (map (λ (timed_act : TimedAct). timed_act.act) timed_acts.now) i
-        ≡ Some result }
-    ensures within { IsWithin result }
-{
-    timed_acts[i].act.copy()
-}
-
-impl Script {
     /// The script of a text, or its first faulty line. `Memory` is the answer only where memory was wanted and not found.
     pub fn of(alloc: Global, bytes: &[u8]) -> Result<Script, ScriptFault>
         ensures clean { OnOk result (fault_in bytes.now ≡ None) }
@@ -179,4 +73,110 @@ impl Script {
             act_at(named, i)
         }
     }
+}
+
+impl Script {
+    /// A script that names no cycle.
+    pub(crate) fn new(alloc: Global) -> Script
+        ensures { result ≡ [] }
+    {
+        Script {
+            timed_acts: Vec::new(alloc),
+        }
+    }
+
+    /// Adds the acts of an entry whose cycle isn't before those that are there.
+    pub(crate) fn enter(&mut self, entry: Entry) -> Result<(), AllocError>
+        requires order { All (λ earlier. earlier.cycle ≤ entry.cycle) self.old }
+        requires within { IsGiven entry.acts }
+        ensures ok { OnOk result (self.new ≡ self.old ++ timed_acts_of entry) }
+    {
+        match entry.acts {
+            Acts::Usual => self.push_usual(entry.cycle),
+            Acts::One(act) => self.push(TimedAct {
+                cycle: entry.cycle,
+                act,
+            }),
+        }
+    }
+
+    /// Adds the usual acts of a cycle that isn't before those that are there.
+    fn push_usual(&mut self, cycle: u64) -> Result<(), AllocError>
+        requires order { All (λ earlier. earlier.cycle ≤ cycle) self.old }
+        ensures ok { OnOk result (self.new ≡ self.old ++ timed_acts_with cycle usual_acts) }
+    {
+        for i in 0..USUAL {
+            self.push(TimedAct {
+                cycle,
+                act: usual(i),
+            })?;
+        }
+        Ok(())
+    }
+
+    /// Adds an act of a cycle that isn't before those that are there.
+    fn push(&mut self, timed_act: TimedAct) -> Result<(), AllocError>
+        requires order { All (λ earlier. earlier.cycle ≤ timed_act.cycle) self.old }
+        requires within { IsWithin timed_act.act }
+        ensures ok { OnOk result (self.new ≡ self.old ++ timed_act ∷ []) }
+    {
+        self.timed_acts.push(timed_act)?;
+        Ok(())
+    }
+}
+
+/// The timed acts of a cycle.
+fn named(timed_acts: &[TimedAct], cycle: u64) -> &[TimedAct]
+    requires { IsNonDecreasingBy (λ (timed_act : TimedAct). timed_act.cycle) timed_acts.now }
+    ensures { result.now ≡ filter (λ timed_act. timed_act.cycle == cycle) timed_acts.now }
+{
+    let (start, end) = span(timed_acts, cycle);
+    &timed_acts[start..end]
+}
+
+/// Where the timed acts of a cycle begin and end.
+fn span(timed_acts: &[TimedAct], cycle: u64) -> (usize, usize)
+    requires { IsNonDecreasingBy (λ (timed_act : TimedAct). timed_act.cycle) timed_acts.now }
+    ensures order { result.0 ≤ result.1 }
+    ensures bound { result.1 ≤ length timed_acts.now }
+    ensures timed_acts { take (result.1 - result.0) (drop result.0 timed_acts.now)
+        ≡ filter (λ timed_act. timed_act.cycle == cycle) timed_acts.now }
+{
+    (
+        count_before(timed_acts, cycle),
+        count_through(timed_acts, cycle),
+    )
+}
+
+/// How many timed acts are before a cycle.
+fn count_before(timed_acts: &[TimedAct], cycle: u64) -> usize
+    requires { IsNonDecreasingBy (λ (timed_act : TimedAct). timed_act.cycle) timed_acts.now }
+    ensures bound { result ≤ length timed_acts.now }
+    ensures below { AllWithin (λ timed_act. timed_act.cycle < cycle) timed_acts.now 0 result }
+    ensures rest { AllWithin
+        (λ timed_act. cycle ≤ timed_act.cycle) timed_acts.now result (length timed_acts.now) }
+{
+    timed_acts.partition_point(|timed_act| timed_act.cycle < cycle)
+}
+
+/// How many timed acts are not after a cycle.
+fn count_through(timed_acts: &[TimedAct], cycle: u64) -> usize
+    requires { IsNonDecreasingBy (λ (timed_act : TimedAct). timed_act.cycle) timed_acts.now }
+    ensures bound { result ≤ length timed_acts.now }
+    ensures below { AllWithin (λ timed_act. timed_act.cycle ≤ cycle) timed_acts.now 0 result }
+    ensures rest { AllWithin
+        (λ timed_act. cycle < timed_act.cycle) timed_acts.now result (length timed_acts.now) }
+{
+    timed_acts.partition_point(|timed_act| timed_act.cycle <= cycle)
+}
+
+/// The act of an timed act, by its place.
+fn act_at(timed_acts: &[TimedAct], i: usize) -> Act
+    requires place { i < length timed_acts.now }
+    requires within { All (λ timed_act. IsWithin timed_act.act) timed_acts.now }
+    ensures value { slice_get (map (λ (timed_act : TimedAct). timed_act.act) timed_acts.now) i
+        ≡ Some result }
+    ensures within { IsWithin result }
+{
+    timed_acts[i].act.copy()
 }

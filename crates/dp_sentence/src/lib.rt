@@ -40,8 +40,6 @@ mod checksum;
 mod fields;
 pub mod laws;
 mod reading;
-#[cfg(test)]
-mod tests;
 
 use arrayvec::ArrayVec;
 pub use reading::{read, read_first};

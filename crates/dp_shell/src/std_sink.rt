@@ -22,6 +22,13 @@ impl<'a, R: Print> StdSink<'a, R> {
     {
         StdSink { rt, faults: 0 }
     }
+
+    /// How many writes have failed, up to 2^64 - 1.
+    pub fn failures(&self) -> u64
+        ensures { result ≡ ⟦<StdSink<'a, R> as Sink>⟧.faults self.now }
+    {
+        self.faults
+    }
 }
 
 impl<R: Print> Sink for StdSink<'_, R> {
@@ -51,6 +58,3 @@ impl<R: Print> Sink for StdSink<'_, R> {
         }
     }
 }
-
-#[cfg(test)]
-mod tests;

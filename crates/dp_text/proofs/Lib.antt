@@ -2,3 +2,5 @@ pub mod FirstLine
 pub mod FirstPart
 pub mod Digits
 pub mod Places
+pub mod Signs
+pub mod JoinedParts

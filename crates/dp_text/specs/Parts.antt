@@ -1,11 +1,14 @@
 -- The parts of a line.
-use Rattle.std.specs.Prelude.{ℕ, ◌+◌, Bool, ◌==◌, List, Option, take, drop, map}
-use Rattle.std.specs.List.{position, slice_split}
+use Rattle.std.specs.Prelude.{ℕ, ◌+◌, Bool, ◌==◌, not, List, Option, take, drop, map}
+use Rattle.std.specs.List.{list_all, position, slice_split}
 use Rattle.std.specs.Option.{option_map}
 use Rattle.std.specs.Borrow.{Bor}
 
 abbrev pub is_space : ℕ → Bool
 is_space b = b == 32
+
+abbrev pub lacks_space : List ℕ → Bool
+lacks_space text = list_all (λ b. not (is_space b)) text
 
 -- what stands before the first space, and what stands after it
 abbrev pub cut_of : List ℕ → Option (List ℕ × List ℕ)

@@ -4,13 +4,6 @@ ghost use Rattle.dp_text.specs.{cut_of, is_space, parts_of, texts_of};
 
 use arrayvec::ArrayVec;
 
-fn first_space(text: &[u8]) -> Option<usize>
-    ensures value { result ≡ position is_space text.now }
-    ensures bound { IfSome result (λ at. at < length text.now) }
-{
-    text.iter().position(|b| *b == b' ')
-}
-
 /// What comes before the first space, and what comes after it; none where there is no space.
 pub fn cut(text: &[u8]) -> Option<(&[u8], &[u8])>
     ensures { MatchOption result (cut_of text.now ≡ None)
@@ -18,6 +11,13 @@ pub fn cut(text: &[u8]) -> Option<(&[u8], &[u8])>
 {
     let at = first_space(text)?;
     Some((&text[..at], &text[at + 1..]))
+}
+
+fn first_space(text: &[u8]) -> Option<usize>
+    ensures value { result ≡ position is_space text.now }
+    ensures bound { IfSome result (λ at. at < length text.now) }
+{
+    text.iter().position(|b| *b == b' ')
 }
 
 /// The parts between single spaces; none where there are more than `N`.

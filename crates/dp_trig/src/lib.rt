@@ -28,6 +28,3 @@ mod rotation;
 mod trig;
 
 pub use trig::Trig;
-
-#[cfg(test)]
-mod tests;

@@ -17,6 +17,3 @@ mod voter;
 pub use dp_plant::Ballot;
 pub use order::Took;
 pub use voter::Voter;
-
-#[cfg(test)]
-mod tests;

@@ -1,5 +1,5 @@
 //! Plants: the sample plants whole, and files, cases and gains that are refused.
-use super::{named, told, words_in};
+use super::{REPLAY, named, told, words_in};
 use dp_plant::samples::{S1, S2, text_of};
 use std::alloc::Global;
 use std::process::Abort;
@@ -35,6 +35,13 @@ fn the_sample_plant_is_played(rt: HostRuntime) -> Result<(), Fail> {
         "1 run 0\n1 orders 0\n\
          ~0 grp0 G 0\n0 pos0 L 0 0\n0 pos1 L 0 0\n0 pos2 L 0 0\n1000 grp1 G 0\n1000 gyro0 $HEHDT,90.0,T*17\n\
          ~0~cycle 0 LLL\nt0 F 0 0 0 0\nt1 F 0 0 0 0\nt2 F 0 0 0 0\nt3 F 0 0 0 0\nt4 F 0 0 0 0\nt5 F 0 0 0 0\nalarm gyro\nalarm wind\nalarm consequence 1\ncycle 1 LLL\nt0 H 0 0 - -\nt1 H 0 0 - -\nt2 H 0 0 - -\nt3 H 0 0 - -\nt4 H 0 0 - -\nt5 H 0 0 - -\nalarm unknown\nend 2\n",
+        // both groups lost, and a sentence with a wrong check
+        "\
+         ~0 grp0 G 0\n0 grp1 G 0\n\
+         ~0~cycle 0 LLL\nt0 F 0 0 0 0\nt1 F 0 0 0 0\nt2 F 0 0 0 0\nt3 F 0 0 0 0\nt4 F 0 0 0 0\nt5 F 0 0 0 0\nalarm ref 0 silent\nalarm ref 1 silent\nalarm ref 2 silent\nalarm blind\nalarm gyro\nalarm wind\nalarm nocase\nend 1\n",
+        "\
+         ~0 pos0 $GPGGA,123519,4807.038,N,01131.000,E,1,08,0.9,545.4,M,46.9,M,,*46\n\
+         ~0~cycle 0 LLL\nt0 F 0 0 0 0\nt1 F 0 0 0 0\nt2 F 0 0 0 0\nt3 F 0 0 0 0\nt4 F 0 0 0 0\nt5 F 0 0 0 0\nalarm ref 0 silent\nalarm ref 1 silent\nalarm ref 2 silent\nalarm damage pos0\nalarm blind\nalarm gyro\nalarm wind\nend 1\n",
         // 2^20 cycles
         "\
          ~1048576000 pos0 L 0 0\n\
@@ -53,7 +60,7 @@ fn the_sample_plant_is_played(rt: HostRuntime) -> Result<(), Fail> {
             record.as_bytes(),
             script.as_bytes(),
         )?;
-        let seen = told(&rt, alloc, &["replay", "plant", "record", "script"], files)?;
+        let seen = told(&rt, alloc, &REPLAY, files)?;
         assert_eq!(rt; seen.as_str(), wanted, "on {row}");
     }
     Ok(())

@@ -1,7 +1,7 @@
 use Rattle.std.proofs.Common.{◌≡◌, ℕ, List, sym, subst, ◌∙◌, arith}
 use Rattle.dp_core.specs.declared.event.Event.{Event}
 use Rattle.dp_core.specs.Represents.{Represents}
-use Rattle.dp_app.specs.Acting.{ordered, voters}
+use Rattle.dp_app.specs.Acting.{order_events, voters}
 use Rattle.dp_app.proofs.Plays.{ordered_next, ordered_none}
 use Rattle.dp_app.proofs.acting.order_all.Goals as goal
 
@@ -20,4 +20,4 @@ loop-k-preserved c = record {
 pub returns-clause-represents : goal.returns-clause-represents
 returns-clause-represents c =
     let end : c.loop-k.k ≡ voters c.args.plant.now = omega (arith, c.voters_of-k-end.ensures.value) in
-    λ es r. subst (λ (n : ℕ). Represents (ordered c.args.c n es) c.loop-k.world) end (c.loop-k.invariant.represents es r)
+    λ es r. subst (λ (n : ℕ). Represents (order_events c.args.c n es) c.loop-k.world) end (c.loop-k.invariant.represents es r)

@@ -4,7 +4,7 @@ use Rattle.dp_core.specs.declared.event.Event.{Event}
 use Rattle.dp_core.specs.Represents.{Represents}
 use Rattle.dp_script.specs.declared.act.Act.{Act}
 use Rattle.dp_script.specs.TimedActs.{acts_at}
-use Rattle.dp_app.specs.Acting.{all_acted}
+use Rattle.dp_app.specs.Acting.{events_of_acts}
 use Rattle.dp_app.proofs.Plays.{acted_next, acted_none}
 use Rattle.dp_app.proofs.acting.perform_all.Goals as goal
 
@@ -26,4 +26,4 @@ loop-i-preserved c =
 pub returns-clause-represents : goal.returns-clause-represents
 returns-clause-represents c =
     let acts = acts_at c.args.cycle c.args.script.now in
-    λ es r. subst (λ (l : List Act). Represents (all_acted c.args.plant.now c.args.cycle l es) c.loop-i.world) (take_all _ acts (omega arith)) (c.loop-i.invariant.represents es r)
+    λ es r. subst (λ (l : List Act). Represents (events_of_acts c.args.plant.now c.args.cycle l es) c.loop-i.world) (take_all _ acts (omega arith)) (c.loop-i.invariant.represents es r)

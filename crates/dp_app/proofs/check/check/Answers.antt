@@ -1,4 +1,4 @@
-use Rattle.std.proofs.Common.{◌≡◌, ◌++◌, ℕ, List, length, refl, subst, rules}
+use Rattle.std.proofs.Common.{◌≡◌, [], ◌++◌, ℕ, List, length, refl, subst, rules}
 use Rattle.dp_shell.proofs.Taken.{cut_before}
 use Rattle.dp_app.specs.Check.{cases_text}
 use Rattle.dp_app.specs.Endings.{end_line}
@@ -10,7 +10,7 @@ pub returns-in-Ok-clause-written : goal.returns-in-Ok-clause-written
 returns-in-Ok-clause-written g c =
     let p = c.args.plant.now.plant in
     let old = g.K.Sink.taken c.args.out.now in
-    subst (λ (l : List ℕ). HasWritten NoReadFailed l c.finish.result old (g.K.Sink.taken c.finish.new.out)) (whole_check p _ (search rules))
+    subst (λ (l : List ℕ). HasWritten NoReadFailed [] l c.finish.result old (g.K.Sink.taken c.finish.new.out)) (whole_check p _ (search rules))
     (c.finish.ensures.written old (cases_text p) c.in-Ok.ensures.ok)
 
 pub returns-in-Err-clause-written : goal.returns-in-Err-clause-written
@@ -18,6 +18,6 @@ returns-in-Err-clause-written g c =
     let p = c.args.plant.now.plant in
     let old = g.K.Sink.taken c.args.out.now in
     let mid = g.K.Sink.taken c.write_cases.new.out in
-    subst (λ (l : List ℕ). HasWritten NoReadFailed l c.stop.result old (g.K.Sink.taken c.stop.new.out)) (whole_check p (length p.cases.items) refl)
+    subst (λ (l : List ℕ). HasWritten NoReadFailed [] l c.stop.result old (g.K.Sink.taken c.stop.new.out)) (whole_check p (length p.cases.items) refl)
     (c.stop.ensures.written old (cases_text p ++ end_line (length p.cases.items))
     (cut_before old mid (cases_text p) (end_line (length p.cases.items)) c.in-Err.ensures.err))

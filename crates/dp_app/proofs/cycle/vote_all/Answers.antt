@@ -6,7 +6,7 @@ use Rattle.dp_core.specs.declared.event.Event.{Event}
 use Rattle.dp_core.specs.History.{history}
 use Rattle.dp_core.specs.Represents.{Represents}
 use Rattle.dp_core.specs.Voting.{ballot}
-use Rattle.dp_app.specs.Acting.{voted, voters}
+use Rattle.dp_app.specs.Acting.{vote_events, voters}
 use Rattle.dp_app.proofs.Lists.{map_next, map_same}
 use Rattle.dp_app.proofs.Plays.{voted_next, voted_none}
 use Rattle.dp_app.proofs.Votes.{ballot_voted}
@@ -28,8 +28,8 @@ loop-k-preserved c =
       represents = λ es r. subst (λ (l : List Event). Represents l c.vote.new.self) (sym (voted_next c.loop-k.k es)) (c.vote.ensures.represents _ (i.represents es r));
       ballots = λ es r.
           let asked : c.vote.result ≡ ballot c.loop-k.k (history p es) =
-          c.vote.ensures.ballot (voted c.loop-k.k es) (i.represents es r)
-          ∙ ap (λ (q : Plant). ballot c.loop-k.k (history q (voted c.loop-k.k es))) i.plant ∙ ballot_voted p c.loop-k.k c.loop-k.k es in
+          c.vote.ensures.ballot (vote_events c.loop-k.k es) (i.represents es r)
+          ∙ ap (λ (q : Plant). ballot c.loop-k.k (history q (vote_events c.loop-k.k es))) i.plant ∙ ballot_voted p c.loop-k.k c.loop-k.k es in
           c.push.ensures.items ∙ ap (λ (l : List Ballot). l ++ c.vote.result ∷ []) (i.ballots es r)
           ∙ ap (λ (b : Ballot). map (λ k. ballot k (history p es)) (range_with_len 0 c.loop-k.k) ++ b ∷ []) asked
           ∙ sym (map_next (λ k. ballot k (history p es)) c.loop-k.k);
@@ -40,7 +40,7 @@ loop-k-preserved c =
 pub returns-clause-represents : goal.returns-clause-represents
 returns-clause-represents c =
     let end : c.loop-k.k ≡ voters c.args.plant.now = omega (arith, c.voters_of-k-end.ensures.value) in
-    λ es r. subst (λ (n : ℕ). Represents (voted n es) c.loop-k.world) end (c.loop-k.invariant.represents es r)
+    λ es r. subst (λ (n : ℕ). Represents (vote_events n es) c.loop-k.world) end (c.loop-k.invariant.represents es r)
 
 pub returns-clause-ballots : goal.returns-clause-ballots
 returns-clause-ballots c =
@@ -49,4 +49,4 @@ returns-clause-ballots c =
     let end : c.loop-k.k ≡ n = omega (arith, c.voters_of-k-end.ensures.value) in
     λ es r. c.loop-k.invariant.ballots es r
     ∙ ap (λ (m : ℕ). map (λ k. ballot k (history p es)) (range_with_len 0 m)) end
-    ∙ map_same (λ k. ballot k (history p es)) (λ k. ballot k (history p (voted n es))) (λ k. sym (ballot_voted p k n es)) (range_with_len 0 n)
+    ∙ map_same (λ k. ballot k (history p es)) (λ k. ballot k (history p (vote_events n es))) (λ k. sym (ballot_voted p k n es)) (range_with_len 0 n)

@@ -1,4 +1,4 @@
-use Rattle.std.proofs.Common.{◌≡◌, ◌++◌, ℕ, List, Option, subst, sym}
+use Rattle.std.proofs.Common.{◌≡◌, [], ◌++◌, ℕ, List, Option, subst, sym}
 use Rattle.std.specs.Io.KnownBytes.{Appends}
 use Rattle.dp_app.specs.declared.fault.Fault.{Fault}
 use Rattle.dp_app.specs.Outcome.{IsOfInputs, IsOfRecord, last_line, last_status}
@@ -14,7 +14,7 @@ returns-in-Some-clause-status g c =
 pub returns-in-Some-clause-written : goal.returns-in-Some-clause-written
 returns-in-Some-clause-written g c = λ start text a.
     let given = subst IsOfRecord c.in-Some.is c.requires in
-    subst (λ (o : Option Fault). HasWritten NoReadFailed (text ++ last_line c.args.count o) c.announce.result start (g.K.Sink.taken c.announce.new.out)) (sym c.in-Some.is)
+    subst (λ (o : Option Fault). HasWritten NoReadFailed [] (text ++ last_line c.args.count o) c.announce.result start (g.K.Sink.taken c.announce.new.out)) (sym c.in-Some.is)
     (line_written c.in-Some.fault start (g.K.Sink.taken c.args.out.now) (g.K.Sink.taken c.announce.new.out) text c.announce.result given.0 a c.announce.ensures.ends)
 
 pub returns-in-Some-clause-announced : goal.returns-in-Some-clause-announced
@@ -29,16 +29,16 @@ returns-in-Some-clause-read g c =
 
 pub returns-in-None-clause-status : goal.returns-in-None-clause-status
 returns-in-None-clause-status g c =
-    subst (λ (o : Option Fault). IsOfInputs c.write_end.result → c.write_end.result ≡ last_status o) (sym c.in-None.is)
-    (end_status c.write_end.result c.write_end.ensures.answers)
+    subst (λ (o : Option Fault). IsOfInputs c.write_last.result → c.write_last.result ≡ last_status o) (sym c.in-None.is)
+    (end_status c.write_last.result c.write_last.ensures.answers)
 
 pub returns-in-None-clause-written : goal.returns-in-None-clause-written
 returns-in-None-clause-written g c = λ start text a.
-    subst (λ (o : Option Fault). HasWritten NoReadFailed (text ++ last_line c.args.count o) c.write_end.result start (g.K.Sink.taken c.write_end.new.out)) (sym c.in-None.is)
-    (c.write_end.ensures.written start text a)
+    subst (λ (o : Option Fault). HasWritten NoReadFailed [] (text ++ last_line c.args.count o) c.write_last.result start (g.K.Sink.taken c.write_last.new.out)) (sym c.in-None.is)
+    (rw (c.deref.ensures.0, c.end_line.ensures) at (c.write_last.ensures.written start text a))
 
 pub returns-in-None-clause-announced : goal.returns-in-None-clause-announced
-returns-in-None-clause-announced g c = λ start text a. end_announced c.write_end.result start _ c.write_end.ensures.answers
+returns-in-None-clause-announced g c = λ start text a. end_announced c.write_last.result start _ c.write_last.ensures.answers
 
 pub returns-in-None-clause-read : goal.returns-in-None-clause-read
-returns-in-None-clause-read g c = end_read c.write_end.result c.write_end.ensures.answers
+returns-in-None-clause-read g c = end_read c.write_last.result c.write_last.ensures.answers

@@ -1,0 +1,179 @@
+//! Cycles of the sample plant S1. The expected values come from a separate program.
+ghost use Rattle.std.specs.Prelude.{◌≡◌, ◌<◌, ◌^◌, IfSome};
+ghost use Rattle.dp_plant.specs.{IsFrameInRange, IsGustWithin, IsVectorWithin};
+
+use crate::samples::{accepted, heard, plant_with};
+use dp_machine::{Alarms, Cause, Issue, Machine};
+use dp_plant::samples::S1;
+use dp_plant::{Frame, Gust, Place, Slot};
+use std::alloc::Global;
+use std::process::Abort;
+
+fn machine(rt: &impl Abort, alloc: Global) -> Machine {
+    let plant = plant_with(rt, alloc, S1);
+    Machine::new(alloc, &plant, &accepted(rt, &plant)).expect(rt, "memory")
+}
+
+/// What comes in a cycle: a place on all three references, a wind on the first sensor, and the states of two groups.
+#[derive(Clone, Copy)]
+struct Coming {
+    place: Option<Place>,
+    gust: Option<Gust>,
+    first: Option<bool>,
+    second: Option<bool>,
+}
+
+const NOTHING: Coming = Coming {
+    place: None,
+    gust: None,
+    first: None,
+    second: None,
+};
+
+/// A metre north of the setpoint.
+const NORTH: Option<Place> = Some(Place {
+    north: 1_000_000_000,
+    east: 0,
+});
+
+/// The frame, in which one line of the second gyro and one of the second group are damaged.
+fn frame(cycle: u64, coming: Coming) -> Frame
+    requires cycle { cycle < 2 ^ 20 }
+    requires place { IfSome coming.place (IsVectorWithin (2 ^ 43)) }
+    requires gust { IfSome coming.gust IsGustWithin }
+    ensures range { IsFrameInRange 2 result }
+    ensures cycle { result.cycle ≡ cycle }
+{
+    let Coming {
+        place,
+        gust,
+        first,
+        second,
+    } = coming;
+    let none = heard(None);
+    Frame {
+        cycle,
+        pos: [heard(place), heard(place), heard(place)],
+        gyro: [heard(None), damaged(None), heard(None)],
+        wind: [heard(gust), heard(None), heard(None)],
+        group: [
+            heard(first),
+            damaged(second),
+            none,
+            none,
+            none,
+            none,
+            none,
+            none,
+        ],
+    }
+}
+
+fn damaged<T: Copy>(last: Option<T>) -> Slot<T>
+    ensures { result.last ≡ last }
+{
+    Slot {
+        last,
+        damage: 1,
+        skipped: 0,
+    }
+}
+
+fn step(rt: &impl Abort, machine: &mut Machine, coming: Coming) -> Issue
+    requires place { IfSome coming.place (IsVectorWithin (2 ^ 43)) }
+    requires gust { IfSome coming.gust IsGustWithin }
+{
+    let n = machine.count();
+    assert!(rt; n < 1000 && machine.groups() == 2);
+    machine
+        .step(&frame(n, coming))
+        .expect(rt, "estimates in range")
+}
+
+/// Three cycles: the demand, the force of the first thruster, and the estimate after them.
+#[test]
+fn comes_back_from_a_metre_north(rt: HostRuntime) {
+    let mut machine = machine(&rt, rt.alloc());
+    let coming = Coming {
+        place: NORTH,
+        ..NOTHING
+    };
+    let rows = [
+        (0, 0, [62_500_000, 19_531, 1_562_500]),
+        (-68_360, -171, [122_656_250, 37_817, 2_976_561]),
+        (-131_397, -329, [180_466_795, 54_905, 4_250_110]),
+    ];
+    for (surge, force, north) in rows {
+        let issue = step(&rt, &mut machine, coming);
+        assert_eq!(rt; issue.demand, [surge, 0, 0]);
+        assert!(rt; issue.forces.as_slice() == [force, force, 0, 0, 0, 0].as_slice());
+        let plane = machine.state().plane;
+        assert_eq!(rt; [plane.eta.north, plane.beta.north, plane.vel.north], north);
+    }
+    assert_eq!(rt; machine.count(), 3);
+    assert_eq!(rt; machine.steps(), 3);
+}
+
+/// Of two groups one and both are lost, and one is ready again: the forces of the first two thrusters, one of each group, whether there
+/// is no case, and the groups that must not be lost too.
+#[test]
+fn goes_on_with_the_groups_that_are_ready(rt: HostRuntime) {
+    let lost = Some(false);
+    let runs = [
+        [
+            (lost, None, [0, 0], false, 2),
+            (None, None, [0, -342], false, 2),
+            (None, None, [0, -658], false, 2),
+        ],
+        [
+            (lost, lost, [0, 0], true, 0),
+            (None, None, [0, 0], true, 0),
+            (Some(true), None, [-666, 0], false, 1),
+        ],
+    ];
+    for rows in runs {
+        let mut machine = machine(&rt, rt.alloc());
+        for (first, second, forces, nocase, unsurvived) in rows {
+            let coming = Coming {
+                place: NORTH,
+                first,
+                second,
+                ..NOTHING
+            };
+            let issue = step(&rt, &mut machine, coming);
+            let [first, second] = forces;
+            assert!(rt; issue.forces.as_slice() == [first, second, 0, 0, 0, 0].as_slice());
+            assert_eq!(rt; issue.alarms.nocase, nocase);
+            assert_eq!(rt; issue.alarms.lost, unsurvived);
+        }
+    }
+}
+
+/// A wind from ahead and starboard is met in the same cycle, also where nothing else is heard.
+#[test]
+fn meets_the_wind(rt: HostRuntime) {
+    let mut machine = machine(&rt, rt.alloc());
+    let coming = Coming {
+        gust: Some(Gust {
+            angle: 4500,
+            speed: 5144,
+        }),
+        ..NOTHING
+    };
+    let issue = step(&rt, &mut machine, coming);
+    assert_eq!(rt; issue.demand, [3_280_541, 4_037_588, 0]);
+    assert_eq!(rt;
+        issue.alarms,
+        Alarms {
+            refs: [Cause::Silent; 3],
+            damaged: 1 << 4 | 1 << 10,
+            blind: true,
+            gyro: true,
+            wind: false,
+            limited: [false; 3],
+            nocase: false,
+            lost: 0,
+        }
+    );
+    assert_eq!(rt; machine.state().wind, 4500);
+}
