@@ -31,6 +31,7 @@ mod bound;
 mod faults;
 mod five_states;
 mod forms;
+mod inside;
 mod judge;
 pub mod laws;
 mod loops;

@@ -14,7 +14,7 @@ use Rattle.dp_core.specs.Moment.{Moment, is_order, is_wire, saw_taken}
 use Rattle.dp_core.specs.Trajectory.{last_issue}
 use Rattle.dp_core.specs.Voting.{Message, agreed_force, answer, answer_if, ballot, force_said, given_ballot, high_of, is_delivered, is_delivery, is_ready, low_of, message_in, message_of, taken_force}
 use Rattle.dp_machine.specs.Reference.{reference_issue}
-use Rattle.dp_machine.specs.Run.{issue_of, own_setpoints}
+use Rattle.dp_machine.specs.Run.{own_setpoints}
 use Rattle.dp_machine.specs.Step.{step_of}
 use Rattle.dp_machine.specs.declared.issue.Issue.{Issue}
 use Rattle.dp_machine.specs.declared.state.State.{State}
@@ -30,7 +30,7 @@ use Rattle.dp_voter.specs.declared.order.Took.TheVariants.{Repeated, Taken}
 
 -- each force of an issue lies within its thruster's limits
 unfoldable pub IsLimited : Plant → Type 0
-IsLimited p = (s : State) (f : Frame) (x : Issue) (k : ℕ) (g : ℤ) → issue_of (step_of p s f) ≡ Some x → slice_get x.forces.items k ≡ Some g → IsWithin (low_of p k) (high_of p k) g
+IsLimited p = (s : State) (f : Frame) (x : Issue) (k : ℕ) (g : ℤ) → (step_of p s f).issue ≡ x → slice_get x.forces.items k ≡ Some g → IsWithin (low_of p k) (high_of p k) g
 
 reference-limited : (p : Plant) (lim : IsLimited p) (fs : List Frame) (n : ℕ) (x : Issue) (k : ℕ) (g : ℤ) → reference_issue p (own_setpoints p) fs n ≡ Some x → slice_get x.forces.items k ≡ Some g → IsWithin (low_of p k) (high_of p k) g
 unfolding IsLimited

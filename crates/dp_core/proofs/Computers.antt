@@ -1,27 +1,27 @@
 -- A computer represents the moments: what each of its calls keeps.
 use Rattle.dp_core.specs.Mode as modes
 use Rattle.dp_core.specs.Trajectory as trajectories
-use Rattle.std.proofs.Common.{Bool, List, None, Option, Some, [], ap, arith, cond, drop, eqb, false, length, length-append, length-drop, min, refl, subst, suc, sym, true, unwrap_or, zero, ℕ, ℤ, ◌++◌, ◌+◌, ◌-◌, ◌<◌, ◌||◌, ◌∙◌, ◌∷◌, ◌≡◌, ◌≤◌}
+use Rattle.std.proofs.Common.{Bool, List, None, Option, Some, [], ap, arith, cond, drop, eqb, false, length, length-append, length-drop, min, refl, subst, suc, sym, true, unwrap_or, zero, ℕ, ℤ, ◌++◌, ◌+◌, ◌-◌, ◌<◌, ◌∙◌, ◌∷◌, ◌≡◌, ◌≤◌}
 use Rattle.std.proofs.lemmas.Bool.{eq-eqb, eqb-true}
 use Rattle.std.proofs.lemmas.List.{drop-append-le, drop-drop}
 use Rattle.std.specs.Prelude.{slice_get, ◌^◌}
 use Rattle.circular_buffer.specs.Buffer.{keep_last}
 use Rattle.dp_machine.specs.Machine.{one_more}
-use Rattle.dp_machine.specs.Run.{own_setpoints, state_after}
-use Rattle.dp_machine.specs.Step.{Step, first_state, rest_in, step_of}
+use Rattle.dp_machine.specs.Run.{own_setpoints}
+use Rattle.dp_machine.specs.Step.{first_state, rest_in, step_of}
 use Rattle.dp_machine.specs.declared.state.State.{State}
 use Rattle.dp_core.proofs.Cycles.{run_on-empty}
-use Rattle.dp_core.proofs.Moments.{IsSkew-from_base, moment, run-no_base}
-use Rattle.dp_core.proofs.Searches.{last_issue-broken, last_issue-quiet, last_issue-run, mode-broken, mode-quiet, steps-halt, steps-quiet, steps-run}
+use Rattle.dp_core.proofs.Moments.{IsSkew-from_base, moment, run-no_base, run-no_break}
+use Rattle.dp_core.proofs.Searches.{last_issue-broken, last_issue-quiet, last_issue-run, mode-broken, mode-quiet, steps-quiet, steps-run}
 use Rattle.dp_core.proofs.Trajectories.{Within, done-base, done-quiet, done-run, frames-kept, trajectory-base, trajectory-quiet, trajectory-run}
-use Rattle.dp_core.specs.ComputerState.{ComputerState, Control, InControl, after_run, after_skew, after_step, after_stop, after_wire, control_in, first_computer, is_live, mode_of, oldest_answer, run_answer, run_answer_in, run_in, run_over_oldest, skew_answer, skew_in, step_answer, wire_answer, wire_answer_in, wire_in, with_frame, with_overrun}
+use Rattle.dp_core.specs.ComputerState.{ComputerState, Control, InControl, after_run, after_skew, after_step, after_stop, after_wire, control_in, first_computer, is_live, mode_of, oldest_answer, run_answer, run_answer_in, run_in, run_over_oldest, skew_answer, skew_in, wire_answer, wire_answer_in, wire_in, with_frame, with_overrun}
 use Rattle.dp_core.specs.History.{answer_over, answer_to_run, answer_to_wire, seen_of}
 use Rattle.dp_core.specs.Mode.{at_break, broken_mode, cycles_begun, frames}
-use Rattle.dp_core.specs.Moment.{Moment, frame_of, is_base, is_break, is_end, is_halt, is_interruption, is_overrun, is_run, is_skew, is_stop, issue_at, place_of_skew, saw_halt, saw_issue, saw_overrun, saw_skew}
+use Rattle.dp_core.specs.Moment.{Moment, frame_of, is_base, is_break, is_end, is_interruption, is_overrun, is_run, is_skew, is_stop, issue_at, place_of_skew, saw_issue, saw_overrun, saw_skew}
 use Rattle.dp_core.specs.Represents.{ComputerRepresents}
 use Rattle.dp_core.specs.Trajectory.{base, frames_done, last_issue, runs, state_at_base, trajectory}
 use Rattle.dp_core.specs.declared.answers.Ran.{Ran}
-use Rattle.dp_core.specs.declared.answers.Ran.TheVariants.{Aligning as RanAligning, Idle as RanIdle, Off as RanOff}
+use Rattle.dp_core.specs.declared.answers.Ran.TheVariants.{Aligning as RanAligning, Idle as RanIdle, Issued as RanIssued, Off as RanOff}
 use Rattle.dp_core.specs.declared.event.Event.TheVariants.{Order, Run, Say, Skew, Stop, Vote, Wire}
 use Rattle.dp_core.specs.declared.event.Seen.TheVariants.{Ran as SeenRan}
 use Rattle.dp_plant.specs.Vectors.{zero_place}
@@ -73,7 +73,6 @@ pub record IsNothing (c : ℕ) (m : Moment) : Type 0 where
   pub no_break : is_break c m ≡ false
   pub no_base : is_base c m ≡ false
   pub no_issue : issue_at c m ≡ None
-  pub no_halt : is_halt c m ≡ false
 
 pub computer-kept : (p : Plant) (c : ℕ) (m : Moment) (h : List Moment) (x : ComputerState) → IsNothing c m → Within p h → ComputerRepresents p c h x → ComputerRepresents p c (m ∷ h) x
 unfolding Within
@@ -87,7 +86,7 @@ computer-kept p c m h x n w s =
       waits_live = λ l. rw (fs, done-quiet p c m h n.no_break n.no_base n.no_issue) (s.waits_live (sym same ∙ l));
       waits_aligning = λ l. rw fs (s.waits_aligning (sym same ∙ l));
       last = rw (last_issue-quiet c m h n.no_break n.no_issue) s.last;
-      steps = rw (steps-quiet c m h n.no_issue n.no_halt) s.steps;
+      steps = rw (steps-quiet c m h n.no_issue) s.steps;
     }
 
 -- ---- a Stop
@@ -104,7 +103,7 @@ end-mode : (c : ℕ) (m : Moment) (h : List Moment) → is_end c m ≡ true → 
 end-mode c m h e = mode-broken c m h (end-breaks c m e) ∙ rw e
 
 pub computer-stop : (p : Plant) (c : ℕ) (h : List Moment) (x : ComputerState) → ComputerRepresents p c h x → ComputerRepresents p c (moment p h (Stop c) ∷ h) (after_stop x)
-unfolding after_stop issue_at is_run is_halt
+unfolding after_stop issue_at is_run
 computer-stop p c h x s =
     let m = moment p h (Stop c) in
     let b = end-breaks c m (stop-ends p c h) in
@@ -116,7 +115,7 @@ computer-stop p c h x s =
       waits_live = λ l. cc;
       waits_aligning = λ l. cc;
       last = rw (last_issue-broken c m h b);
-      steps = rw (steps-quiet c m h refl refl) s.steps;
+      steps = rw (steps-quiet c m h refl) s.steps;
     }
 
 -- ---- a Run
@@ -136,22 +135,13 @@ run-issue : (p : Plant) (c : ℕ) (h : List Moment) (m : Mode) → modes.mode c 
 unfolding issue_at is_run seen_of
 run-issue p c h m e = (let q : eqb c c ≡ true = eq-eqb c c refl in rw (q, e))
 
-run-halt : (p : Plant) (c : ℕ) (h : List Moment) (m : Mode) → modes.mode c h ≡ m → is_halt c (moment p h (Run c)) ≡ saw_halt (SeenRan (answer_to_run p c h m))
-unfolding is_halt is_run seen_of
-run-halt p c h m e = (let q : eqb c c ≡ true = eq-eqb c c refl in rw (q, e))
-
-run-unbroken : (p : Plant) (c : ℕ) (h : List Moment) → is_halt c (moment p h (Run c)) ≡ false → is_break c (moment p h (Run c)) ≡ false
-unfolding is_break is_interruption is_end is_stop saw_overrun seen_of
-run-unbroken p c h e = rw e
-
-run-nothing : (p : Plant) (c : ℕ) (h : List Moment) → issue_at c (moment p h (Run c)) ≡ None → is_halt c (moment p h (Run c)) ≡ false → IsNothing c (moment p h (Run c))
+run-nothing : (p : Plant) (c : ℕ) (h : List Moment) → issue_at c (moment p h (Run c)) ≡ None → IsNothing c (moment p h (Run c))
 unfolding frame_of
-run-nothing p c h i n = record {
+run-nothing p c h i = record {
   no_frame = refl;
-  no_break = run-unbroken p c h n;
+  no_break = run-no_break p c c h;
   no_base = run-no_base p c c h;
   no_issue = i;
-  no_halt = n;
 }
 
 one_more-limit : (n m limit : ℕ) → n ≡ min m limit → min (n + 1) limit ≡ min (m + 1) limit
@@ -160,80 +150,54 @@ one_more-limit n m limit e = rw e (grind arith)
 one_more-is : (n m : ℕ) → n ≡ min m (2 ^ 64 - 1) → one_more n ≡ min (m + 1) (2 ^ 64 - 1)
 one_more-is n m e = one_more-limit n m (2 ^ 64 - 1) e
 
-run_live : (p : Plant) (c : ℕ) (h : List Moment) (f : Frame) (o : Option Step) → slice_get (frames h) (frames_done p c h) ≡ Some f → step_of p (trajectory p c h) f ≡ o → answer_to_run p c h Live ≡ step_answer o
+run_live : (p : Plant) (c : ℕ) (h : List Moment) (f : Frame) → slice_get (frames h) (frames_done p c h) ≡ Some f → answer_to_run p c h Live ≡ RanIssued (step_of p (trajectory p c h) f).issue
 unfolding answer_to_run answer_over
-run_live p c h f o e t = rw (e, t)
+run_live p c h f o = rw o
 
-or_from_right : (a b : Bool) → b ≡ true → (a || b) ≡ true
-or_from_right true b e = refl
-or_from_right false b e = e
-
-halt-ends : (c : ℕ) (m : Moment) → is_halt c m ≡ true → is_end c m ≡ true
-unfolding is_end
-halt-ends c m e = or_from_right (is_stop c m.event) (is_halt c m) e
-
-run_step : (p : Plant) (c : ℕ) (h : List Moment) (x : ComputerState) (f : Frame) (o : Option Step) → modes.mode c h ≡ Live → slice_get (frames h) (frames_done p c h) ≡ Some f → step_of p (trajectory p c h) f ≡ o → ComputerRepresents p c h x → ComputerRepresents p c (moment p h (Run c) ∷ h) (after_step x (drop (suc (frames_done p c h)) (frames h)) o)
-unfolding after_step step_answer saw_issue saw_halt frame_of state_after
-run_step p c h x f (Some t) l e q s =
+run_step : (p : Plant) (c : ℕ) (h : List Moment) (x : ComputerState) (f : Frame) → modes.mode c h ≡ Live → slice_get (frames h) (frames_done p c h) ≡ Some f → ComputerRepresents p c h x → ComputerRepresents p c (moment p h (Run c) ∷ h) (after_step x (drop (suc (frames_done p c h)) (frames h)) (step_of p (trajectory p c h) f))
+unfolding after_step saw_issue frame_of
+run_step p c h x f l e s =
     let m = moment p h (Run c) in
-    let r = run_live p c h f (Some t) e q in
-    let i : issue_at c m ≡ Some t.issue = run-issue p c h Live l ∙ ap (λ (a : Ran). saw_issue (SeenRan a)) r in
-    let n : is_halt c m ≡ false = run-halt p c h Live l ∙ ap (λ (a : Ran). saw_halt (SeenRan a)) r in
-    let b = run-unbroken p c h n in
+    let t = step_of p (trajectory p c h) f in
+    let i : issue_at c m ≡ Some t.issue = run-issue p c h Live l ∙ ap (λ (a : Ran). saw_issue (SeenRan a)) (run_live p c h f e) in
+    let b = run-no_break p c c h in
     let k = run-no_base p c c h in
     let same = mode-quiet c m h b in
     let fs = frames-kept m h refl in
     let more : frames_done p c h + 1 ≡ suc (frames_done p c h) = omega arith in
-    let moved : t.next ≡ trajectory p c (m ∷ h) = rw (trajectory-run p c m h t.issue f b k i refl e, q) in
     record {
       plant = s.plant;
-      control = ap InControl moved ∙ ap (λ z. control_in z (trajectory p c (m ∷ h))) (sym (same ∙ l));
+      control = ap InControl (sym (trajectory-run p c m h t.issue f b k i refl e)) ∙ ap (λ z. control_in z (trajectory p c (m ∷ h))) (sym (same ∙ l));
       next = λ o. rw fs (s.next (λ z. o (same ∙ z)));
       waits_live = λ z. rw (fs, done-run p c m h t.issue b k i, more);
       waits_aligning = λ z. (let u = sym same ∙ z in cc);
       last = rw (last_issue-run c m h t.issue b i);
       steps = rw (steps-run c m h t.issue i) (one_more-is x.steps (trajectories.steps c h) s.steps);
     }
-run_step p c h x f None l e q s =
-    let m = moment p h (Run c) in
-    let r = run_live p c h f None e q in
-    let n : is_halt c m ≡ true = run-halt p c h Live l ∙ ap (λ (a : Ran). saw_halt (SeenRan a)) r in
-    let ends = halt-ends c m n in
-    let off = end-mode c m h ends in
-    record {
-      plant = s.plant;
-      control = ap (λ z. control_in z (trajectory p c (m ∷ h))) (sym off);
-      next = λ o. absurd (o off);
-      waits_live = λ z. cc;
-      waits_aligning = λ z. cc;
-      last = rw (last_issue-broken c m h (end-breaks c m ends));
-      steps = rw (steps-halt c m h n) (one_more-is x.steps (trajectories.steps c h) s.steps);
-    }
 
 none_waits : (p : Plant) (c : ℕ) (h : List Moment) → slice_get (frames h) (frames_done p c h) ≡ None → answer_to_run p c h Live ≡ RanIdle
 unfolding answer_to_run answer_over
 none_waits p c h e = rw e
 
-idle-nothing : (p : Plant) (c : ℕ) (h : List Moment) (m : Mode) (a : Ran) → modes.mode c h ≡ m → answer_to_run p c h m ≡ a → saw_issue (SeenRan a) ≡ None → saw_halt (SeenRan a) ≡ false → IsNothing c (moment p h (Run c))
-idle-nothing p c h m a l r i n =
-    run-nothing p c h (run-issue p c h m l ∙ (ap (λ (a : Ran). saw_issue (SeenRan a)) r ∙ i)) (run-halt p c h m l ∙ (ap (λ (a : Ran). saw_halt (SeenRan a)) r ∙ n))
+idle-nothing : (p : Plant) (c : ℕ) (h : List Moment) (m : Mode) (a : Ran) → modes.mode c h ≡ m → answer_to_run p c h m ≡ a → saw_issue (SeenRan a) ≡ None → IsNothing c (moment p h (Run c))
+idle-nothing p c h m a l r i = run-nothing p c h (run-issue p c h m l ∙ (ap (λ (a : Ran). saw_issue (SeenRan a)) r ∙ i))
 
 run_waits : (p : Plant) (c : ℕ) (h : List Moment) (x : ComputerState) (o : Option Frame) → modes.mode c h ≡ Live → slice_get (frames h) (frames_done p c h) ≡ o → Within p h → ComputerRepresents p c h x → ComputerRepresents p c (moment p h (Run c) ∷ h) (run_over_oldest x (trajectory p c h) (drop (frames_done p c h) (frames h)))
-unfolding run_over_oldest saw_issue saw_halt
+unfolding run_over_oldest saw_issue
 run_waits p c h x (Some f) l e w s =
     let rest = drop (suc (frames_done p c h)) (frames h) in
     subst (λ ws. ComputerRepresents p c (moment p h (Run c) ∷ h) (run_over_oldest x (trajectory p c h) ws)) (sym (drop-one_more (frames_done p c h) (frames h) f e))
     (subst (λ q. ComputerRepresents p c (moment p h (Run c) ∷ h) (after_step x rest (step_of q (trajectory p c h) f))) (sym s.plant)
-    (run_step p c h x f (step_of p (trajectory p c h) f) l e refl s))
+    (run_step p c h x f l e s))
 run_waits p c h x None l e w s =
     subst (λ ws. ComputerRepresents p c (moment p h (Run c) ∷ h) (run_over_oldest x (trajectory p c h) ws)) (sym (drop-none_left (frames_done p c h) (frames h) e))
-    (computer-kept p c (moment p h (Run c)) h x (idle-nothing p c h Live RanIdle l (none_waits p c h e) refl refl) w s)
+    (computer-kept p c (moment p h (Run c)) h x (idle-nothing p c h Live RanIdle l (none_waits p c h e) refl) w s)
 
 run_mode : (p : Plant) (c : ℕ) (h : List Moment) (x : ComputerState) (m : Mode) → modes.mode c h ≡ m → Within p h → ComputerRepresents p c h x → ComputerRepresents p c (moment p h (Run c) ∷ h) (run_in x (control_in m (trajectory p c h)))
-unfolding run_in answer_to_run saw_issue saw_halt
+unfolding run_in answer_to_run saw_issue
 run_mode p c h x Live l w s = subst (λ q. ComputerRepresents p c (moment p h (Run c) ∷ h) (run_over_oldest x (trajectory p c h) q)) (sym (s.waits_live l)) (run_waits p c h x (slice_get (frames h) (frames_done p c h)) l refl w s)
-run_mode p c h x Aligning l w s = computer-kept p c (moment p h (Run c)) h x (idle-nothing p c h Aligning RanAligning l refl refl refl) w s
-run_mode p c h x Off l w s = computer-kept p c (moment p h (Run c)) h x (idle-nothing p c h Off RanOff l refl refl refl) w s
+run_mode p c h x Aligning l w s = computer-kept p c (moment p h (Run c)) h x (idle-nothing p c h Aligning RanAligning l refl refl) w s
+run_mode p c h x Off l w s = computer-kept p c (moment p h (Run c)) h x (idle-nothing p c h Off RanOff l refl refl) w s
 
 pub computer-run : (p : Plant) (c : ℕ) (h : List Moment) (x : ComputerState) → Within p h → ComputerRepresents p c h x → ComputerRepresents p c (moment p h (Run c) ∷ h) (after_run x)
 unfolding after_run
@@ -242,8 +206,8 @@ computer-run p c h x w s = subst (λ z. ComputerRepresents p c (moment p h (Run 
 -- what a Run is answered
 
 oldest_waits : (p : Plant) (c : ℕ) (h : List Moment) (x : ComputerState) (o : Option Frame) → slice_get (frames h) (frames_done p c h) ≡ o → ComputerRepresents p c h x → oldest_answer x (trajectory p c h) (drop (frames_done p c h) (frames h)) ≡ answer_over p (trajectory p c h) o
-unfolding oldest_answer answer_over step_answer
-oldest_waits p c h x (Some f) e s = ap (oldest_answer x (trajectory p c h)) (drop-one_more (frames_done p c h) (frames h) f e) ∙ ap (λ q. step_answer (step_of q (trajectory p c h) f)) s.plant
+unfolding oldest_answer answer_over
+oldest_waits p c h x (Some f) e s = ap (oldest_answer x (trajectory p c h)) (drop-one_more (frames_done p c h) (frames h) f e) ∙ ap (λ q. RanIssued (step_of q (trajectory p c h) f).issue) s.plant
 oldest_waits p c h x None e s = ap (oldest_answer x (trajectory p c h)) (drop-none_left (frames_done p c h) (frames h) e)
 
 run_answer-mode : (p : Plant) (c : ℕ) (h : List Moment) (x : ComputerState) (m : Mode) → modes.mode c h ≡ m → ComputerRepresents p c h x → run_answer_in x (control_in m (trajectory p c h)) ≡ answer_to_run p c h m
@@ -266,7 +230,7 @@ answer_at p (suc (suc zero)) h f l = refl
 answer_at p (suc (suc (suc c))) h f l = absurd (omega arith)
 
 wire-breaks : (p : Plant) (c : ℕ) (h : List Moment) (f : Frame) → c < 3 → is_break c (moment p h (Wire f)) ≡ is_overrun (Some (answer_to_wire p c h (modes.mode c h)))
-unfolding is_break is_interruption is_end is_stop is_halt is_run
+unfolding is_break is_interruption is_end is_stop
 wire-breaks p c h f l = answer_at p c h f l
 
 pub wire-cycles : (p : Plant) (h : List Moment) (f : Frame) → cycles_begun (moment p h (Wire f) ∷ h) ≡ cycles_begun h + 1
@@ -286,7 +250,7 @@ newest-more fs o f l e =
 
 -- a Wire that is no overrun of c
 wire_quiet : (p : Plant) (c : ℕ) (h : List Moment) (f : Frame) (x : ComputerState) (ws : List Frame) → is_break c (moment p h (Wire f)) ≡ false → (modes.mode c h ≡ Off → ⊥) → (modes.mode c h ≡ Live → ws ≡ x.waits ++ f ∷ []) → (modes.mode c h ≡ Aligning → ws ≡ keep_last 16 (x.waits ++ f ∷ [])) → Within p h → ComputerRepresents p c h x → ComputerRepresents p c (moment p h (Wire f) ∷ h) (record x { next = x.next + 1; waits = ws })
-unfolding is_base is_skew place_of_skew issue_at is_run is_halt Within
+unfolding is_base is_skew place_of_skew issue_at is_run Within
 wire_quiet p c h f x ws b off live aligning w s =
     let m = moment p h (Wire f) in
     let same = mode-quiet c m h b in
@@ -297,12 +261,12 @@ wire_quiet p c h f x ws b off live aligning w s =
       waits_live = λ q. live (sym same ∙ q) ∙ rw (wire-frames p h f, done-quiet p c m h b refl refl, s.waits_live (sym same ∙ q)) (sym (drop-append-le (frames_done p c h) (frames h) (f ∷ []) (w c (sym same ∙ q))));
       waits_aligning = λ q. aligning (sym same ∙ q) ∙ rw (wire-frames p h f, s.waits_aligning (sym same ∙ q)) (newest-more (frames h) (length (frames h) - 16) f (omega arith) (omega arith));
       last = rw (last_issue-quiet c m h b refl) s.last;
-      steps = rw (steps-quiet c m h refl refl) s.steps;
+      steps = rw (steps-quiet c m h refl) s.steps;
     }
 
 -- an overrun of c
 wire_overrun : (p : Plant) (c : ℕ) (h : List Moment) (f : Frame) (x : ComputerState) → is_break c (moment p h (Wire f)) ≡ true → modes.mode c h ≡ Live → cycles_begun h - frames_done p c h ≡ 16 → Within p h → ComputerRepresents p c h x → ComputerRepresents p c (moment p h (Wire f) ∷ h) (with_overrun x f)
-unfolding issue_at is_run is_halt is_end is_stop Within
+unfolding issue_at is_run is_end is_stop Within
 wire_overrun p c h f x b live full w s =
     let m = moment p h (Wire f) in
     let al : modes.mode c (m ∷ h) ≡ Aligning = mode-broken c m h b in
@@ -315,7 +279,7 @@ wire_overrun p c h f x b live full w s =
       waits_live = λ q. (let y = sym al ∙ q in cc);
       waits_aligning = λ q. rw (wire-frames p h f, s.waits_live live) (newest-more (frames h) (frames_done p c h) f wd (omega arith));
       last = rw (last_issue-broken c m h b);
-      steps = rw (steps-quiet c m h refl refl) s.steps;
+      steps = rw (steps-quiet c m h refl) s.steps;
     }
 
 wire_live : (p : Plant) (c : ℕ) (h : List Moment) (f : Frame) (x : ComputerState) (full : Bool) → c < 3 → eqb (cycles_begun h - frames_done p c h) 16 ≡ full → modes.mode c h ≡ Live → Within p h → ComputerRepresents p c h x → ComputerRepresents p c (moment p h (Wire f) ∷ h) (cond full (with_overrun x f) (with_frame x f))
@@ -328,7 +292,7 @@ wire_live p c h f x false c3 e l w s =
     wire_quiet p c h f x (x.waits ++ f ∷ []) b (λ o. (let t = sym l ∙ o in cc)) (λ _. refl) (λ a. (let t = sym l ∙ a in cc)) w s
 
 wire_off : (p : Plant) (c : ℕ) (h : List Moment) (f : Frame) (x : ComputerState) → is_break c (moment p h (Wire f)) ≡ false → modes.mode c h ≡ Off → ComputerRepresents p c h x → ComputerRepresents p c (moment p h (Wire f) ∷ h) x
-unfolding issue_at is_run is_halt
+unfolding issue_at is_run
 wire_off p c h f x b off s =
     let m = moment p h (Wire f) in
     let same = mode-quiet c m h b in
@@ -339,7 +303,7 @@ wire_off p c h f x b off s =
       waits_live = λ q. (let y = sym off ∙ (sym same ∙ q) in cc);
       waits_aligning = λ q. (let y = sym off ∙ (sym same ∙ q) in cc);
       last = rw (last_issue-quiet c m h b refl) s.last;
-      steps = rw (steps-quiet c m h refl refl) s.steps;
+      steps = rw (steps-quiet c m h refl) s.steps;
     }
 
 waits-length : (p : Plant) (c : ℕ) (h : List Moment) (x : ComputerState) → modes.mode c h ≡ Live → ComputerRepresents p c h x → length x.waits ≡ cycles_begun h - frames_done p c h
@@ -389,7 +353,7 @@ skew_live p c at h x k w s =
       waits_live = λ q. rw (fs, done-base p c m h b k (w c t.live)) (s.waits_live t.live);
       waits_aligning = λ q. (let u = sym same ∙ q in let v = t.live in cc);
       last = rw (last_issue-quiet c m h b i) s.last;
-      steps = rw (steps-quiet c m h i (t.quiet_halt c)) s.steps;
+      steps = rw (steps-quiet c m h i) s.steps;
     }
 
 skew_own : (p : Plant) (c : ℕ) (at : Place) (h : List Moment) (m : Mode) → modes.mode c h ≡ m → is_base c (moment p h (Skew c at)) ≡ is_live m
@@ -397,8 +361,8 @@ unfolding is_base is_skew place_of_skew saw_skew seen_of
 skew_own p c at h m e = (let q : eqb c c ≡ true = eq-eqb c c refl in rw (q, e))
 
 skew-nothing : (p : Plant) (c d : ℕ) (at : Place) (h : List Moment) → is_base c (moment p h (Skew d at)) ≡ false → IsNothing c (moment p h (Skew d at))
-unfolding frame_of is_break is_interruption is_end is_stop is_halt is_run saw_overrun seen_of issue_at
-skew-nothing p c d at h e = record { no_frame = refl; no_break = refl; no_base = e; no_issue = refl; no_halt = refl }
+unfolding frame_of is_break is_interruption is_end is_stop is_run saw_overrun seen_of issue_at
+skew-nothing p c d at h e = record { no_frame = refl; no_break = refl; no_base = e; no_issue = refl }
 
 skew_mode : (p : Plant) (c : ℕ) (at : Place) (h : List Moment) (x : ComputerState) (m : Mode) → modes.mode c h ≡ m → Within p h → ComputerRepresents p c h x → ComputerRepresents p c (moment p h (Skew c at) ∷ h) (skew_in x at (control_in m (trajectory p c h)))
 unfolding skew_in
@@ -424,21 +388,21 @@ pub skew-other : (p : Plant) (c d : ℕ) (at : Place) (h : List Moment) → eqb 
 skew-other p c d at h e = skew-nothing p c d at h (no_base-other p c d at h e)
 
 pub run-other : (p : Plant) (c d : ℕ) (h : List Moment) → eqb d c ≡ false → IsNothing c (moment p h (Run d))
-unfolding frame_of is_break is_interruption is_end is_stop is_halt is_run saw_overrun seen_of is_base is_skew place_of_skew issue_at
-run-other p c d h e = record { no_frame = refl; no_break = rw e; no_base = refl; no_issue = rw e; no_halt = rw e }
+unfolding frame_of is_break is_interruption is_end is_stop is_run saw_overrun seen_of is_base is_skew place_of_skew issue_at
+run-other p c d h e = record { no_frame = refl; no_break = refl; no_base = refl; no_issue = rw e }
 
 pub stop-other : (p : Plant) (c d : ℕ) (h : List Moment) → eqb d c ≡ false → IsNothing c (moment p h (Stop d))
-unfolding frame_of is_break is_interruption is_end is_stop is_halt is_run saw_overrun seen_of is_base is_skew place_of_skew issue_at
-stop-other p c d h e = record { no_frame = refl; no_break = rw e; no_base = refl; no_issue = refl; no_halt = refl }
+unfolding frame_of is_break is_interruption is_end is_stop is_run saw_overrun seen_of is_base is_skew place_of_skew issue_at
+stop-other p c d h e = record { no_frame = refl; no_break = rw e; no_base = refl; no_issue = refl }
 
 pub order-nothing : (p : Plant) (c a k : ℕ) (h : List Moment) → IsNothing c (moment p h (Order a k))
-unfolding frame_of is_break is_interruption is_end is_stop is_halt is_run saw_overrun seen_of is_base is_skew place_of_skew issue_at
-order-nothing p c a k h = record { no_frame = refl; no_break = refl; no_base = refl; no_issue = refl; no_halt = refl }
+unfolding frame_of is_break is_interruption is_end is_stop is_run saw_overrun seen_of is_base is_skew place_of_skew issue_at
+order-nothing p c a k h = record { no_frame = refl; no_break = refl; no_base = refl; no_issue = refl }
 
 pub say-nothing : (p : Plant) (c a k n : ℕ) (f : ℤ) (h : List Moment) → IsNothing c (moment p h (Say a k n f))
-unfolding frame_of is_break is_interruption is_end is_stop is_halt is_run saw_overrun seen_of is_base is_skew place_of_skew issue_at
-say-nothing p c a k n f h = record { no_frame = refl; no_break = refl; no_base = refl; no_issue = refl; no_halt = refl }
+unfolding frame_of is_break is_interruption is_end is_stop is_run saw_overrun seen_of is_base is_skew place_of_skew issue_at
+say-nothing p c a k n f h = record { no_frame = refl; no_break = refl; no_base = refl; no_issue = refl }
 
 pub vote-nothing : (p : Plant) (c k : ℕ) (h : List Moment) → IsNothing c (moment p h (Vote k))
-unfolding frame_of is_break is_interruption is_end is_stop is_halt is_run saw_overrun seen_of is_base is_skew place_of_skew issue_at
-vote-nothing p c k h = record { no_frame = refl; no_break = refl; no_base = refl; no_issue = refl; no_halt = refl }
+unfolding frame_of is_break is_interruption is_end is_stop is_run saw_overrun seen_of is_base is_skew place_of_skew issue_at
+vote-nothing p c k h = record { no_frame = refl; no_break = refl; no_base = refl; no_issue = refl }

@@ -1,11 +1,11 @@
 -- Cycles of control, one after another: one more frame, frames that come later, and how many were done.
-use Rattle.std.proofs.Common.{Bool, List, None, Option, Some, [], add-one, ap, arith, cond, drop, false, length, length-drop, refl, subst, suc, sym, take, true, zero, ℕ, ◌++◌, ◌+◌, ◌<◌, ◌∙◌, ◌∷◌, ◌≡◌, ◌≤◌}
+use Rattle.std.proofs.Common.{List, Some, [], add-one, ap, arith, drop, length, length-drop, refl, suc, sym, take, zero, ℕ, ◌++◌, ◌+◌, ◌<◌, ◌∙◌, ◌∷◌, ◌≡◌, ◌≤◌}
 use Rattle.std.proofs.lemmas.List.{drop-append-le, length-take-le, take-append-le}
 use Rattle.std.specs.Prelude.{slice_get}
 use Rattle.dp_machine.specs.declared.issue.Issue.{Issue}
 use Rattle.dp_machine.specs.declared.state.State.{State}
 use Rattle.dp_machine.specs.Reference.{reference_issue, reference_state}
-use Rattle.dp_machine.specs.Run.{Setpoints, cycle_at, issue_after, issue_of, run_on, run_over, state_after}
+use Rattle.dp_machine.specs.Run.{Setpoints, cycle_at, issue_after, run_on, run_over}
 use Rattle.dp_machine.specs.Step.{Step, first_state, rest_in, step_at}
 use Rattle.dp_plant.specs.declared.frames.Frame.{Frame}
 use Rattle.dp_plant.specs.declared.limits.Setpoint.{Setpoint}
@@ -45,36 +45,20 @@ pub rest-count : (s : State) (at : Place) → (rest_in s at).count ≡ s.count
 unfolding rest_in
 rest-count s at = refl
 
--- what one cycle gives, if it gives something: the issue of that cycle, and the state of the next
+-- what one cycle gives: the issue of that cycle, and the state of the next
 pub record IsCycle (s : State) (t : Step) : Type 0 where
   pub cycle : t.issue.cycle ≡ s.count
   pub count : t.next.count ≡ s.count + 1
 
-cycle-some : (s : State) (b : Bool) (r t : Step) → cond b (Some r) None ≡ Some t → r.issue.cycle ≡ s.count → r.next.count ≡ s.count + 1 → IsCycle s t
-cycle-some s false r t e i n = cc
-cycle-some s true r t e i n = (let same : r ≡ t = cc in subst (IsCycle s) same (record { cycle = i; count = n }))
-
-pub step-is_cycle : (p : Plant) (at : Setpoint) (s : State) (f : Frame) (t : Step) → step_at p at s f ≡ Some t → IsCycle s t
+pub step-is_cycle : (p : Plant) (at : Setpoint) (s : State) (f : Frame) → IsCycle s (step_at p at s f)
 unfolding step_at
-step-is_cycle p at s f t e = cycle-some s _ _ t e refl refl
+step-is_cycle p at s f = record { cycle = refl; count = refl }
 
-pub after-count : (p : Plant) (at : Setpoint) (s : State) (f : Frame) → (state_after s (step_at p at s f)).count ≡ suc s.count
-unfolding state_after
-after-count p at s f = by (step_at p at s f) refl
-  where
-    by : (o : Option Step) → step_at p at s f ≡ o → (state_after s o).count ≡ suc s.count
-    by None e = omega arith
-    by (Some t) e = let n = (step-is_cycle p at s f t e).count in omega arith
+pub after-count : (p : Plant) (at : Setpoint) (s : State) (f : Frame) → (step_at p at s f).next.count ≡ suc s.count
+after-count p at s f = let n = (step-is_cycle p at s f).count in omega arith
 
-issue_of-some : (o : Option Step) (x : Issue) → issue_of o ≡ Some x → (t : Step) × (o ≡ Some t) × (t.issue ≡ x)
-unfolding issue_of
-issue_of-some (Some t) x e = (t, refl, cc)
-issue_of-some None x e = cc
-
-pub issue-cycle : (p : Plant) (at : Setpoint) (s : State) (f : Frame) (x : Issue) → issue_of (step_at p at s f) ≡ Some x → x.cycle ≡ s.count
-issue-cycle p at s f x e =
-    let t = issue_of-some (step_at p at s f) x e in
-    ap (λ (y : Issue). y.cycle) (sym t.2) ∙ (step-is_cycle p at s f t.0 t.1).cycle
+pub issue-cycle : (p : Plant) (at : Setpoint) (s : State) (f : Frame) (x : Issue) → (step_at p at s f).issue ≡ x → x.cycle ≡ s.count
+issue-cycle p at s f x e = ap (λ (y : Issue). y.cycle) (sym e) ∙ (step-is_cycle p at s f).cycle
 
 -- ---- cycle after cycle
 
@@ -82,9 +66,9 @@ module _ (p : Plant) (sets : Setpoints) where
   run_over-append : (s : State) (xs ys : List Frame) → run_over p sets s (xs ++ ys) ≡ run_over p sets (run_over p sets s xs) ys
   unfolding run_over
   run_over-append s [] ys = refl
-  run_over-append s (x ∷ xs) ys = run_over-append (state_after s (cycle_at p sets s x)) xs ys
+  run_over-append s (x ∷ xs) ys = run_over-append (cycle_at p sets s x).next xs ys
 
-  pub run_on-step : (fs : List Frame) (s : State) (n : ℕ) (f : Frame) → slice_get fs (s.count + n) ≡ Some f → run_on p sets fs s (n + 1) ≡ state_after (run_on p sets fs s n) (cycle_at p sets (run_on p sets fs s n) f)
+  pub run_on-step : (fs : List Frame) (s : State) (n : ℕ) (f : Frame) → slice_get fs (s.count + n) ≡ Some f → run_on p sets fs s (n + 1) ≡ (cycle_at p sets (run_on p sets fs s n) f).next
   unfolding run_on run_over
   run_on-step fs s n f e =
       let g : slice_get (drop s.count fs) n ≡ Some f = slice_get-drop s.count fs n ∙ e in
@@ -105,7 +89,7 @@ module _ (p : Plant) (sets : Setpoints) where
   unfolding run_over
   run_over-count s [] = omega arith
   run_over-count s (f ∷ fs) =
-      let a = run_over-count (state_after s (cycle_at p sets s f)) fs in
+      let a = run_over-count (cycle_at p sets s f).next fs in
       let b = after-count p (sets s.count) s f in
       omega arith
 
@@ -133,41 +117,44 @@ module _ (p : Plant) (sets : Setpoints) where
   reference_state-grown fs gs n h = rw (take-append-le)
 
   pub reference_state-step : (fs : List Frame) (n : ℕ) (f : Frame) → slice_get fs n ≡ Some f
-      → reference_state p sets (take (n + 1) fs) ≡ state_after (reference_state p sets (take n fs)) (cycle_at p sets (reference_state p sets (take n fs)) f)
+      → reference_state p sets (take (n + 1) fs) ≡ (cycle_at p sets (reference_state p sets (take n fs)) f).next
   unfolding reference_state run_over
   reference_state-step fs n f e = rw (add-one, take-one_more n fs f e) (run_over-append (first_state p) (take n fs) (f ∷ []))
 
-  issue_after-at : (s : State) (fs : List Frame) (n : ℕ) (f : Frame) → slice_get fs n ≡ Some f → issue_after p sets s fs n ≡ issue_of (cycle_at p sets (run_over p sets s (take n fs)) f)
+  issue_after-at : (s : State) (fs : List Frame) (n : ℕ) (f : Frame) → slice_get fs n ≡ Some f → issue_after p sets s fs n ≡ Some (cycle_at p sets (run_over p sets s (take n fs)) f).issue
   unfolding issue_after run_over
   issue_after-at s [] n f e = cc
-  issue_after-at s (g ∷ fs) zero f e = (let same : g ≡ f = cc in ap (λ x. issue_of (cycle_at p sets s x)) same)
-  issue_after-at s (g ∷ fs) (suc n) f e = issue_after-at (state_after s (cycle_at p sets s g)) fs n f e
+  issue_after-at s (g ∷ fs) zero f e = (let same : g ≡ f = cc in ap (λ x. Some (cycle_at p sets s x).issue) same)
+  issue_after-at s (g ∷ fs) (suc n) f e = issue_after-at (cycle_at p sets s g).next fs n f e
 
   issue_after-grown : (s : State) (fs gs : List Frame) (n : ℕ) (x : Issue) → issue_after p sets s fs n ≡ Some x → issue_after p sets s (fs ++ gs) n ≡ Some x
   unfolding issue_after
   issue_after-grown s [] gs n x e = cc
   issue_after-grown s (f ∷ fs) gs zero x e = e
-  issue_after-grown s (f ∷ fs) gs (suc n) x e = issue_after-grown (state_after s (cycle_at p sets s f)) fs gs n x e
+  issue_after-grown s (f ∷ fs) gs (suc n) x e = issue_after-grown (cycle_at p sets s f).next fs gs n x e
 
   -- it comes of a frame
   issue_after-some : (s : State) (fs : List Frame) (n : ℕ) (x : Issue) → issue_after p sets s fs n ≡ Some x → (f : Frame) × (slice_get fs n ≡ Some f)
   unfolding issue_after
   issue_after-some s [] n x e = cc
   issue_after-some s (f ∷ fs) zero x e = (f, refl)
-  issue_after-some s (f ∷ fs) (suc n) x e = issue_after-some (state_after s (cycle_at p sets s f)) fs n x e
+  issue_after-some s (f ∷ fs) (suc n) x e = issue_after-some (cycle_at p sets s f).next fs n x e
 
   pub reference_issue-grown : (fs gs : List Frame) (n : ℕ) (x : Issue) → reference_issue p sets fs n ≡ Some x → reference_issue p sets (fs ++ gs) n ≡ Some x
   unfolding reference_issue
   reference_issue-grown fs gs n x e = issue_after-grown (first_state p) fs gs n x e
 
-  pub reference_issue-at : (fs : List Frame) (n : ℕ) (f : Frame) → slice_get fs n ≡ Some f → reference_issue p sets fs n ≡ issue_of (cycle_at p sets (reference_state p sets (take n fs)) f)
+  pub reference_issue-at : (fs : List Frame) (n : ℕ) (f : Frame) → slice_get fs n ≡ Some f → reference_issue p sets fs n ≡ Some (cycle_at p sets (reference_state p sets (take n fs)) f).issue
   unfolding reference_issue reference_state
   reference_issue-at fs n f e = issue_after-at (first_state p) fs n f e
 
   -- an issue of the reference run is one of a step
   pub reference_issue-step : (fs : List Frame) (n : ℕ) (x : Issue) → reference_issue p sets fs n ≡ Some x
-      → (s : State) × (f : Frame) × (issue_of (cycle_at p sets s f) ≡ Some x)
+      → (s : State) × (f : Frame) × ((cycle_at p sets s f).issue ≡ x)
   unfolding reference_issue
   reference_issue-step fs n x e =
       let t = issue_after-some (first_state p) fs n x e in
-      (run_over p sets (first_state p) (take n fs), t.0, sym (issue_after-at (first_state p) fs n t.0 t.1) ∙ e)
+      (run_over p sets (first_state p) (take n fs), t.0, same (sym (issue_after-at (first_state p) fs n t.0 t.1) ∙ e))
+    where
+      same : {y : Issue} → Some y ≡ Some x → y ≡ x
+      same q = cc

@@ -1,8 +1,7 @@
 -- A computer that isn't off has the frames of all cycles, and each is of the world's plant.
-use Rattle.std.proofs.Common.{Bool, List, [], Option, Some, None, arith, cond, eqb, false, inl, inr, length, map, refl, slice_set, subst, true, ℕ, ◌+◌, ◌∙◌, ◌∷◌, ◌≡◌}
+use Rattle.std.proofs.Common.{Bool, List, [], Some, arith, cond, eqb, false, inl, inr, length, map, refl, slice_set, subst, true, ℕ, ◌+◌, ◌∙◌, ◌∷◌, ◌≡◌}
 use Rattle.std.specs.Prelude.{slice_get}
 use Rattle.dp_core.proofs.Lists.{map-at, set-at}
-use Rattle.dp_machine.specs.Step.{Step, step_of}
 use Rattle.dp_machine.specs.declared.state.State.{State}
 use Rattle.dp_core.specs.ComputerState.{ComputerState, Control, InControl, SwitchedOff, ToAlign, after_run, after_skew, after_step, after_stop, after_wire, run_in, run_over_oldest, skew_in, wire_in, with_frame, with_overrun}
 use Rattle.dp_core.specs.WorldView.{IsInStep}
@@ -24,15 +23,10 @@ pub wire-in_step : (n : ℕ) (x : ComputerState) (f : Frame) → IsInStep n x �
 unfolding after_wire
 wire-in_step n x f s = wire_in-step n x f x.control refl s
 
-after_step-in_step : (n : ℕ) (x : ComputerState) (fs : List Frame) (o : Option Step) → x.next ≡ n → IsInStep n (after_step x fs o)
-unfolding after_step
-after_step-in_step n x fs (Some t) s = λ _. s
-after_step-in_step n x fs None s = λ o. absurd (o refl)
-
 oldest-in_step : (n : ℕ) (x : ComputerState) (state : State) (fs : List Frame) → x.next ≡ n → IsInStep n (run_over_oldest x state fs)
-unfolding run_over_oldest
+unfolding run_over_oldest after_step
 oldest-in_step n x state [] s = λ _. s
-oldest-in_step n x state (f ∷ fs) s = after_step-in_step n x fs (step_of x.plant state f) s
+oldest-in_step n x state (f ∷ fs) s = λ _. s
 
 run_in-in_step : (n : ℕ) (x : ComputerState) (c : Control) → x.control ≡ c → IsInStep n x → IsInStep n (run_in x c)
 unfolding run_in
@@ -74,15 +68,10 @@ wire-plant : (x : ComputerState) (f : Frame) → (after_wire x f).plant ≡ x.pl
 unfolding after_wire
 wire-plant x f = wire_in-plant x f x.control
 
-after_step-plant : (x : ComputerState) (fs : List Frame) (o : Option Step) → (after_step x fs o).plant ≡ x.plant
-unfolding after_step
-after_step-plant x fs (Some t) = refl
-after_step-plant x fs None = refl
-
 oldest-plant : (x : ComputerState) (state : State) (fs : List Frame) → (run_over_oldest x state fs).plant ≡ x.plant
-unfolding run_over_oldest
+unfolding run_over_oldest after_step
 oldest-plant x state [] = refl
-oldest-plant x state (f ∷ fs) = after_step-plant x fs (step_of x.plant state f)
+oldest-plant x state (f ∷ fs) = refl
 
 run_in-plant : (x : ComputerState) (c : Control) → (run_in x c).plant ≡ x.plant
 unfolding run_in

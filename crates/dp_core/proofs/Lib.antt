@@ -14,6 +14,5 @@ mod InStep
 mod Worlds
 pub mod HistoryLemmas
 pub mod VoteLemmas
-mod Halts
 mod PlantThrusters
 mod Limits

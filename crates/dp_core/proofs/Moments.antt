@@ -1,19 +1,16 @@
 -- What the moment of an event is to a computer.
 use Rattle.std.proofs.Common.{Bool, List, None, Option, Some, [], cond, eqb, false, inl, inr, is_some, not, refl, subst, suc, sym, true, ℕ, ℤ, ◌&&◌, ◌-◌, ◌||◌, ◌≡◌, ◌⊎◌}
-use Rattle.std.proofs.lemmas.Bool.{and_parts, and_right, eq-eqb, eqb-true, not-false, or_parts}
+use Rattle.std.proofs.lemmas.Bool.{and_parts, eq-eqb, eqb-true, not-false, or_parts}
 use Rattle.std.specs.Option.{option_map}
 use Rattle.std.specs.Prelude.{int_lt, slice_get}
-use Rattle.dp_core.specs.ComputerState.{is_live, step_answer}
+use Rattle.dp_core.specs.ComputerState.{is_live}
 use Rattle.dp_core.specs.History.{answer_over, answer_to_run, seen_of}
 use Rattle.dp_core.specs.Mode.{cycles_begun, frames, mode}
-use Rattle.dp_core.specs.Moment.{Moment, frame_of, is_base, is_break, is_end, is_fault, is_halt, is_interruption, is_order, is_run, is_skew, is_stop, is_wire, issue_at, place_of_skew, saw_halt, saw_issue, saw_overrun, saw_skew, saw_taken}
+use Rattle.dp_core.specs.Moment.{Moment, frame_of, is_base, is_break, is_end, is_fault, is_interruption, is_order, is_run, is_skew, is_stop, is_wire, issue_at, place_of_skew, saw_issue, saw_overrun, saw_skew, saw_taken}
 use Rattle.dp_core.specs.Trajectory.{frames_done, last_issue, trajectory}
 use Rattle.dp_core.specs.Voting.{Message, answer, answer_if, given_ballot, high_of, low_of, message_in, message_of, taken_force}
-use Rattle.dp_core.specs.declared.answers.Ran.TheVariants.{Aligning as RanAligning, Halted as RanHalted, Idle as RanIdle, Issued as RanIssued, Off as RanOff}
-use Rattle.dp_core.specs.declared.event.Seen.{Seen}
 use Rattle.dp_core.specs.declared.event.Seen.TheVariants.{Ran as SeenRan, Sent as SeenSent}
-use Rattle.dp_machine.specs.Run.{issue_of}
-use Rattle.dp_machine.specs.Step.{Step, step_of}
+use Rattle.dp_machine.specs.Step.{step_of}
 use Rattle.dp_machine.specs.declared.issue.Issue.{Issue}
 use Rattle.dp_machine.specs.declared.state.State.{State}
 use Rattle.dp_core.specs.declared.event.Event.{Event}
@@ -34,26 +31,24 @@ pub record IsRun (p : Plant) (c : ℕ) (h : List Moment) (e : Event) (x : Issue)
   pub live : mode c h ≡ Live
   pub frame : Frame
   pub waited : slice_get (frames h) (frames_done p c h) ≡ Some frame
-  pub issued : issue_of (step_of p (trajectory p c h) frame) ≡ Some x
+  pub issued : (step_of p (trajectory p c h) frame).issue ≡ x
   pub quiet_break : is_break c (moment p h e) ≡ false
   pub no_base : is_base c (moment p h e) ≡ false
   pub no_frame : frame_of e ≡ []
 
-step-facts : (o : Option Step) (x : Issue) → saw_issue (SeenRan (step_answer o)) ≡ Some x → issue_of o ≡ Some x
-unfolding saw_issue step_answer issue_of
-step-facts None x e = cc
-step-facts (Some t) x e = e
+issue-is : (y x : Issue) → Some y ≡ Some x → y ≡ x
+issue-is y x e = cc
 
-over-facts : (p : Plant) (s : State) (o : Option Frame) (x : Issue) → saw_issue (SeenRan (answer_over p s o)) ≡ Some x → (f : Frame) × (o ≡ Some f) × (issue_of (step_of p s f) ≡ Some x)
+over-facts : (p : Plant) (s : State) (o : Option Frame) (x : Issue) → saw_issue (SeenRan (answer_over p s o)) ≡ Some x → (f : Frame) × (o ≡ Some f) × ((step_of p s f).issue ≡ x)
 unfolding saw_issue answer_over
 over-facts p s None x h = cc
-over-facts p s (Some f) x h = (f, refl, step-facts (step_of p s f) x h)
+over-facts p s (Some f) x h = (f, refl, issue-is (step_of p s f).issue x h)
 
 record RunOver (p : Plant) (c : ℕ) (h : List Moment) (x : Issue) : Type 0 where
   live : mode c h ≡ Live
   frame : Frame
   waited : slice_get (frames h) (frames_done p c h) ≡ Some frame
-  issued : issue_of (step_of p (trajectory p c h) frame) ≡ Some x
+  issued : (step_of p (trajectory p c h) frame).issue ≡ x
 
 run-facts : (p : Plant) (c : ℕ) (h : List Moment) (m : Mode) (x : Issue) → mode c h ≡ m → saw_issue (SeenRan (answer_to_run p c h m)) ≡ Some x → RunOver p c h x
 unfolding saw_issue answer_to_run
@@ -63,19 +58,10 @@ run-facts p c h Live x e s =
     let t = over-facts p (trajectory p c h) (slice_get (frames h) (frames_done p c h)) x s in
     record { live = e; frame = t.0; waited = t.1; issued = t.2 }
 
--- a Run that was issued is no break and no skew of any computer
-issue-no_halt : (s : Seen) (x : Issue) → saw_issue s ≡ Some x → saw_halt s ≡ false
-unfolding saw_issue saw_halt
-issue-no_halt (SeenRan RanHalted) x e = cc
-issue-no_halt (SeenRan (RanIssued y)) x e = refl
-issue-no_halt (SeenRan RanIdle) x e = refl
-issue-no_halt (SeenRan RanAligning) x e = refl
-issue-no_halt (SeenRan RanOff) x e = refl
-issue-no_halt _ x e = refl
-
-pub run-no_break : (p : Plant) (c d : ℕ) (h : List Moment) → (is_run c (Run d) && saw_halt (seen_of p h (Run d))) ≡ false → is_break c (moment p h (Run d)) ≡ false
-unfolding is_break is_interruption is_end is_stop is_halt saw_overrun seen_of
-run-no_break p c d h e = rw e
+-- a Run is no break and no skew of any computer
+pub run-no_break : (p : Plant) (c d : ℕ) (h : List Moment) → is_break c (moment p h (Run d)) ≡ false
+unfolding is_break is_interruption is_end is_stop saw_overrun seen_of
+run-no_break p c d h = refl
 
 pub run-no_base : (p : Plant) (c d : ℕ) (h : List Moment) → is_base c (moment p h (Run d)) ≡ false
 unfolding is_base is_skew place_of_skew
@@ -92,7 +78,7 @@ run-is p c d h x true e s =
       frame = t.frame;
       waited = t.waited;
       issued = t.issued;
-      quiet_break = run-no_break p c d h (and_right (is_run c (Run d)) (saw_halt (seen_of p h (Run d))) (issue-no_halt (seen_of p h (Run d)) x s));
+      quiet_break = run-no_break p c d h;
       no_base = run-no_base p c d h;
       no_frame = refl;
     }
@@ -111,7 +97,6 @@ pub record IsSkew (p : Plant) (c : ℕ) (h : List Moment) (e : Event) : Type 0 w
   pub no_wire : is_wire e ≡ false
   pub quiet_break : (d : ℕ) → is_break d (moment p h e) ≡ false
   pub quiet_issue : (d : ℕ) → issue_at d (moment p h e) ≡ None
-  pub quiet_halt : (d : ℕ) → is_halt d (moment p h e) ≡ false
 
 is_live-true : (m : Mode) → is_live m ≡ true → m ≡ Live
 is_live-true Live e = refl
@@ -122,7 +107,7 @@ skew_is c d at true e s = eqb-true d c e
 skew_is c d at false e s = cc
 
 pub IsSkew-from_base : (p : Plant) (c : ℕ) (h : List Moment) (e : Event) → is_base c (moment p h e) ≡ true → IsSkew p c h e
-unfolding is_base is_interruption is_skew place_of_skew seen_of saw_skew is_fault frame_of is_wire is_break is_end is_stop is_halt saw_overrun issue_at is_run
+unfolding is_base is_interruption is_skew place_of_skew seen_of saw_skew is_fault frame_of is_wire is_break is_end is_stop saw_overrun issue_at is_run
 IsSkew-from_base p c h (Skew d at) s =
     let both = and_parts (is_some (cond (eqb d c) (Some at) None)) (is_live (mode d h)) s in
     let same = skew_is c d at (eqb d c) refl both.0 in
@@ -133,7 +118,6 @@ IsSkew-from_base p c h (Skew d at) s =
       no_wire = refl;
       quiet_break = λ _. refl;
       quiet_issue = λ _. refl;
-      quiet_halt = λ _. refl;
     }
 IsSkew-from_base p c h _ s = cc
 

@@ -1,9 +1,9 @@
 -- How each search changes at one more moment, by what the moment is to the computer.
-use Rattle.std.proofs.Common.{Bool, List, None, Some, false, if◌then◌else◌, is_some, refl, true, ℕ, ◌+◌, ◌||◌, ◌∷◌, ◌≡◌}
+use Rattle.std.proofs.Common.{List, None, Some, false, if◌then◌else◌, true, ℕ, ◌+◌, ◌||◌, ◌∷◌, ◌≡◌}
 use Rattle.dp_machine.specs.declared.issue.Issue.{Issue}
 use Rattle.dp_core.specs.Faulty.{is_faulty, is_skewed}
 use Rattle.dp_core.specs.Mode.{at_break, broken_mode, mode, since_break}
-use Rattle.dp_core.specs.Moment.{Moment, is_base, is_break, is_end, is_fault, is_halt, is_skew, issue_at}
+use Rattle.dp_core.specs.Moment.{Moment, is_base, is_break, is_end, is_fault, is_skew, issue_at}
 use Rattle.dp_core.specs.Trajectory.{base, last_issue, runs, state_at_base, steps, trajectory}
 use Rattle.dp_plant.specs.declared.plant.Plant.{Plant}
 use Rattle.dp_plant.specs.declared.voting.Mode.TheVariants.{Aligning, Off}
@@ -61,18 +61,10 @@ module _ (c : ℕ) (m : Moment) (h : List Moment) where
   unfolding is_skewed since_break
   skewed-kept b = rw b
 
-  pub steps-quiet : issue_at c m ≡ None → is_halt c m ≡ false → steps c (m ∷ h) ≡ steps c h
+  pub steps-quiet : issue_at c m ≡ None → steps c (m ∷ h) ≡ steps c h
   unfolding steps
-  steps-quiet i n = rw (i, n)
+  steps-quiet i = rw i
 
   pub steps-run : (x : Issue) → issue_at c m ≡ Some x → steps c (m ∷ h) ≡ steps c h + 1
   unfolding steps
   steps-run x i = rw i
-
-  pub steps-halt : is_halt c m ≡ true → steps c (m ∷ h) ≡ steps c h + 1
-  unfolding steps
-  steps-halt n = at (is_some (issue_at c m)) refl
-    where
-      at : (b : Bool) → is_some (issue_at c m) ≡ b → steps c (m ∷ h) ≡ steps c h + 1
-      at true e = rw e
-      at false e = rw (e, n)

@@ -11,11 +11,11 @@ use Rattle.dp_core.proofs.Trajectories.{Within, broken-not_live, done-quiet, don
 use Rattle.dp_core.specs.Faulty.{is_faulty, is_faulty_in_cycle, is_skewed}
 use Rattle.dp_core.specs.History.{history, seen_of}
 use Rattle.dp_core.specs.Mode.{cycles_begun, frames, mode, since_break}
-use Rattle.dp_core.specs.Moment.{Moment, frame_of, is_base, is_break, is_end, is_fault, is_halt, is_interruption, is_order, is_run, is_skew, is_stop, is_wire, place_of_skew, saw_overrun, saw_skew, saw_taken}
+use Rattle.dp_core.specs.Moment.{Moment, frame_of, is_base, is_break, is_end, is_fault, is_interruption, is_order, is_skew, is_stop, is_wire, place_of_skew, saw_overrun, saw_skew, saw_taken}
 use Rattle.dp_core.specs.Trajectory.{base, frames_done, last_issue, runs, trajectory}
 use Rattle.dp_core.specs.Voting.{Message, force_said, message_in, taken_force}
 use Rattle.dp_machine.specs.Reference.{force_in, force_of, reference_issue, reference_state}
-use Rattle.dp_machine.specs.Run.{issue_of, own_setpoints, run_on, run_over, state_after}
+use Rattle.dp_machine.specs.Run.{own_setpoints, run_on, run_over}
 use Rattle.dp_machine.specs.Step.{first_state, step_of}
 use Rattle.dp_machine.specs.declared.issue.Issue.{Issue}
 use Rattle.dp_machine.specs.declared.state.State.{State}
@@ -112,7 +112,7 @@ trajectories_by p h e c (Runs b s x i) w ok l a =
     let r = IsRun-from_issue p c h e x i in
     let was = ok.trajectories c r.live (not_skewed_before c m h b a).1 in
     let step = reference_state-step p (own_setpoints p) (frames h) (frames_done p c h) r.frame r.waited in
-    let next : trajectory p c (m ∷ h) ≡ reference_state p (own_setpoints p) (take (frames_done p c h + 1) (frames h)) = trajectory-run p c m h x r.frame b s i r.no_frame r.waited ∙ (ap (λ (t : State). state_after t (step_of p t r.frame)) was ∙ sym step) in
+    let next : trajectory p c (m ∷ h) ≡ reference_state p (own_setpoints p) (take (frames_done p c h + 1) (frames h)) = trajectory-run p c m h x r.frame b s i r.no_frame r.waited ∙ (ap (λ (t : State). (step_of p t r.frame).next) was ∙ sym step) in
     rw (done-run p c m h x b s i, frames-kept m h r.no_frame) next
 trajectories_by p h e c (Quiet b s i) w ok l a =
     let m = moment p h e in
@@ -133,7 +133,7 @@ issues_by p h e c (Runs b s y i) w ok x a l =
     let same : y ≡ x = (let t = last_issue-run c m h y b i in cc) in
     let cycle : y.cycle ≡ frames_done p c h = issue-cycle p p.setpoint (trajectory p c h) r.frame y r.issued ∙ trajectory-count p c h (w c r.live) in
     let at = reference_issue-at p (own_setpoints p) (frames h) (frames_done p c h) r.frame r.waited in
-    let by_y : reference_issue p (own_setpoints p) (frames h) y.cycle ≡ Some y = ap (reference_issue p (own_setpoints p) (frames h)) cycle ∙ (at ∙ (ap (λ (t : State). issue_of (step_of p t r.frame)) (sym was) ∙ r.issued)) in
+    let by_y : reference_issue p (own_setpoints p) (frames h) y.cycle ≡ Some y = ap (reference_issue p (own_setpoints p) (frames h)) cycle ∙ (at ∙ (ap (λ (t : State). Some (step_of p t r.frame).issue) (sym was) ∙ ap Some r.issued)) in
     rw (frames-kept m h r.no_frame) (subst (λ z. reference_issue p (own_setpoints p) (frames h) z.cycle ≡ Some z) same by_y)
 issues_by p h e c (Quiet b s i) w ok x a l =
     let m = moment p h e in
@@ -158,7 +158,7 @@ unfolding force_said
 said-force h e b f t u = let v = rw t at u in cc
 
 pub order-no_break : (p : Plant) (k a c : ℕ) (h : List Moment) (e : Event) → (is_order a k e && saw_taken (seen_of p h e)) ≡ true → is_break c (moment p h e) ≡ false
-unfolding is_order is_break is_interruption is_end is_stop is_halt is_run saw_overrun seen_of
+unfolding is_order is_break is_interruption is_end is_stop saw_overrun seen_of
 order-no_break p k a c h (Order d j) s = refl
 order-no_break p k a c h (Say d j cycle f) s = refl
 order-no_break p k a c h _ s = cc

@@ -9,7 +9,7 @@ use Rattle.dp_core.specs.Mode.{cycles_begun, frames, mode}
 use Rattle.dp_core.specs.Moment.{Moment, frame_of, is_base, is_break, is_end, issue_at}
 use Rattle.dp_core.specs.Trajectory.{base, frames_done, runs, state_at_base, trajectory}
 use Rattle.dp_core.specs.declared.event.Event.{Event}
-use Rattle.dp_machine.specs.Run.{own_setpoints, state_after}
+use Rattle.dp_machine.specs.Run.{own_setpoints}
 use Rattle.dp_machine.specs.Step.{step_of}
 use Rattle.dp_machine.specs.declared.issue.Issue.{Issue}
 use Rattle.dp_machine.specs.declared.state.State.{State}
@@ -84,7 +84,7 @@ module _ (p : Plant) (c : ℕ) (m : Moment) (h : List Moment) where
   unfolding frames_done
   done-quiet b s i = rw (base-quiet c m h p s, runs-quiet c m h b s i)
 
-  pub trajectory-run : (x : Issue) (f : Frame) → is_break c m ≡ false → is_base c m ≡ false → issue_at c m ≡ Some x → frame_of m.event ≡ [] → slice_get (frames h) (frames_done p c h) ≡ Some f → trajectory p c (m ∷ h) ≡ state_after (trajectory p c h) (step_of p (trajectory p c h) f)
+  pub trajectory-run : (x : Issue) (f : Frame) → is_break c m ≡ false → is_base c m ≡ false → issue_at c m ≡ Some x → frame_of m.event ≡ [] → slice_get (frames h) (frames_done p c h) ≡ Some f → trajectory p c (m ∷ h) ≡ (step_of p (trajectory p c h) f).next
   unfolding trajectory frames_done
   trajectory-run x f b s i n e = rw (base-quiet c m h p s, runs-run c m h x b s i, frames-kept m h n) (run_on-step p (own_setpoints p) (frames h) (base p c h) (runs c h) f e)
 

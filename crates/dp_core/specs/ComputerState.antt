@@ -13,7 +13,7 @@ use Rattle.dp_machine.specs.Step.{Step, first_state, rest_in, step_of}
 use Rattle.dp_core.specs.declared.answers.Heard.{Heard}
 use Rattle.dp_core.specs.declared.answers.Heard.TheVariants.{Kept, Overrun, Deaf}
 use Rattle.dp_core.specs.declared.answers.Ran.{Ran}
-use Rattle.dp_core.specs.declared.answers.Ran.TheVariants.{Issued as RanIssued, Idle as RanIdle, Aligning as RanAligning, Off as RanOff, Halted as RanHalted}
+use Rattle.dp_core.specs.declared.answers.Ran.TheVariants.{Issued as RanIssued, Idle as RanIdle, Aligning as RanAligning, Off as RanOff}
 
 -- how a computer takes part: it controls from a state, it waits to be aligned, or it is switched
 -- off
@@ -93,18 +93,12 @@ wire_answer_in x (InControl s) = if length x.waits == 16 then Overrun else Kept
 unfoldable pub wire_answer : ComputerState → Heard
 wire_answer x = wire_answer_in x x.control
 
--- after a step, with the frames that wait still; a step that diverges switches the computer off
-unfoldable pub after_step : ComputerState → List Frame → Option Step → ComputerState
-after_step x rest (Some s) = record x {
+-- after a step, with the frames that wait still
+unfoldable pub after_step : ComputerState → List Frame → Step → ComputerState
+after_step x rest s = record x {
   control = InControl s.next;
   waits = rest;
   last = Some s.issue;
-  steps = one_more x.steps;
-}
-after_step x rest None = record x {
-  control = SwitchedOff;
-  waits = [];
-  last = None;
   steps = one_more x.steps;
 }
 
@@ -121,13 +115,9 @@ run_in x SwitchedOff = x
 unfoldable pub after_run : ComputerState → ComputerState
 after_run x = run_in x x.control
 
-unfoldable pub step_answer : Option Step → Ran
-step_answer (Some s) = RanIssued s.issue
-step_answer None = RanHalted
-
 unfoldable pub oldest_answer : ComputerState → State → List Frame → Ran
 oldest_answer x s [] = RanIdle
-oldest_answer x s (f ∷ fs) = step_answer (step_of x.plant s f)
+oldest_answer x s (f ∷ fs) = RanIssued (step_of x.plant s f).issue
 
 unfoldable pub run_answer_in : ComputerState → Control → Ran
 run_answer_in x (InControl s) = oldest_answer x s x.waits

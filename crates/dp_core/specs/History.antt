@@ -9,12 +9,12 @@ use Rattle.dp_machine.specs.Step.{step_of}
 use Rattle.dp_core.specs.declared.answers.Heard.{Heard}
 use Rattle.dp_core.specs.declared.answers.Heard.TheVariants.{Kept, Overrun, Deaf}
 use Rattle.dp_core.specs.declared.answers.Ran.{Ran}
-use Rattle.dp_core.specs.declared.answers.Ran.TheVariants.{Idle as RanIdle, Aligning as RanAligning, Off as RanOff}
+use Rattle.dp_core.specs.declared.answers.Ran.TheVariants.{Issued as RanIssued, Idle as RanIdle, Aligning as RanAligning, Off as RanOff}
 use Rattle.dp_core.specs.declared.event.Event.{Event}
 use Rattle.dp_core.specs.declared.event.Event.TheVariants.{Wire, Run, Order, Vote, Skew, Say, Stop}
 use Rattle.dp_core.specs.declared.event.Seen.{Seen}
 use Rattle.dp_core.specs.declared.event.Seen.TheVariants.{Heard as SeenHeard, Ran as SeenRan, Sent as SeenSent, Voted as SeenVoted, Skewed as SeenSkewed, Done as SeenDone}
-use Rattle.dp_core.specs.ComputerState.{is_live, step_answer}
+use Rattle.dp_core.specs.ComputerState.{is_live}
 use Rattle.dp_core.specs.Moment.{Moment}
 use Rattle.dp_core.specs.Mode.{cycles_begun, frames, mode}
 use Rattle.dp_core.specs.Trajectory.{frames_done, last_issue, trajectory}
@@ -34,7 +34,7 @@ answers_to_wire p h =
 
 unfoldable pub answer_over : Plant → State → Option Frame → Ran
 answer_over p s None = RanIdle
-answer_over p s (Some f) = step_answer (step_of p s f)
+answer_over p s (Some f) = RanIssued (step_of p s f).issue
 
 -- of a Run: a live computer's trajectory goes on over the first frame that it hasn't done
 unfoldable pub answer_to_run : Plant → ℕ → List Moment → Mode → Ran

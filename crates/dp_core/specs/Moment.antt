@@ -8,7 +8,7 @@ use Rattle.dp_voter.specs.declared.order.Took.TheVariants.{Taken}
 use Rattle.dp_machine.specs.declared.issue.Issue.{Issue}
 use Rattle.dp_core.specs.declared.answers.Heard.{Heard}
 use Rattle.dp_core.specs.declared.answers.Heard.TheVariants.{Overrun}
-use Rattle.dp_core.specs.declared.answers.Ran.TheVariants.{Issued as RanIssued, Halted as RanHalted}
+use Rattle.dp_core.specs.declared.answers.Ran.TheVariants.{Issued as RanIssued}
 use Rattle.dp_core.specs.declared.event.Event.{Event}
 use Rattle.dp_core.specs.declared.event.Event.TheVariants.{Wire, Run, Order, Vote, Skew, Say, Stop}
 use Rattle.dp_core.specs.declared.event.Seen.{Seen}
@@ -69,10 +69,6 @@ unfoldable pub saw_overrun : ℕ → Seen → Bool
 saw_overrun c (SeenHeard hs) = is_overrun (slice_get hs c)
 saw_overrun c _ = false
 
-unfoldable pub saw_halt : Seen → Bool
-saw_halt (SeenRan RanHalted) = true
-saw_halt _ = false
-
 unfoldable pub saw_issue : Seen → Option Issue
 saw_issue (SeenRan (RanIssued x)) = Some x
 saw_issue _ = None
@@ -95,13 +91,9 @@ fresh_of _ = None
 
 -- ---- both
 
--- a Run of c at which an estimate left its range
-unfoldable pub is_halt : ℕ → Moment → Bool
-is_halt c m = is_run c m.event && saw_halt m.seen
-
--- c is off from here on
+-- c is off from here on: it was stopped
 unfoldable pub is_end : ℕ → Moment → Bool
-is_end c m = is_stop c m.event || is_halt c m
+is_end c m = is_stop c m.event
 
 -- c has to be aligned from here on: it overran
 unfoldable pub is_interruption : ℕ → Moment → Bool

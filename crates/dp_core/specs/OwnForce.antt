@@ -4,7 +4,6 @@ use Rattle.dp_plant.specs.declared.frames.Frame.{Frame}
 use Rattle.dp_plant.specs.declared.plant.Plant.{Plant}
 use Rattle.dp_plant.specs.declared.voting.Mode.TheVariants.{Live}
 use Rattle.dp_machine.specs.declared.issue.Issue.{Issue}
-use Rattle.dp_machine.specs.Run.{issue_of}
 use Rattle.dp_machine.specs.Step.{step_of}
 use Rattle.dp_core.specs.declared.event.Event.{Event}
 use Rattle.dp_core.specs.declared.event.Event.TheVariants.{Run}
@@ -23,6 +22,6 @@ pub record IsOwnForce (p : Plant) (k a : ℕ) (es : List Event) (f : ℤ) : Type
   pub waited : slice_get (frames (history p earlier)) (frames_done p a (history p earlier))
       ≡ Some frame
   pub issue : Issue
-  pub issued : issue_of (step_of p (trajectory p a (history p earlier)) frame) ≡ Some issue
+  pub issued : (step_of p (trajectory p a (history p earlier)) frame).issue ≡ issue
   pub of_cycle : cycles_begun (history p es) ≡ suc issue.cycle
   pub is : slice_get issue.forces.items k ≡ Some f

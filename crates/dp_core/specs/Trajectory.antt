@@ -8,7 +8,7 @@ use Rattle.dp_machine.specs.declared.issue.Issue.{Issue}
 use Rattle.dp_machine.specs.declared.state.State.{State}
 use Rattle.dp_machine.specs.Run.{own_setpoints, run_on}
 use Rattle.dp_machine.specs.Step.{first_state, rest_in}
-use Rattle.dp_core.specs.Moment.{Moment, is_base, is_break, is_halt, issue_at, place_of_skew}
+use Rattle.dp_core.specs.Moment.{Moment, is_base, is_break, issue_at, place_of_skew}
 use Rattle.dp_core.specs.Mode.{frames}
 
 -- the Runs of c that gave an issue, after its last break or base
@@ -44,7 +44,7 @@ unfoldable pub last_issue : ℕ → List Moment → Option Issue
 last_issue c [] = None
 last_issue c (m ∷ h) = if is_break c m then None else option_or (issue_at c m) (last_issue c h)
 
--- all the Runs of c at which a frame waited
+-- all the Runs of c that gave an issue
 unfoldable pub steps : ℕ → List Moment → ℕ
 steps c [] = 0
-steps c (m ∷ h) = if is_some (issue_at c m) || is_halt c m then steps c h + 1 else steps c h
+steps c (m ∷ h) = if is_some (issue_at c m) then steps c h + 1 else steps c h

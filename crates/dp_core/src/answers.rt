@@ -22,6 +22,4 @@ pub enum Ran {
     Aligning,
     /// It is off.
     Off,
-    /// A coordinate of its estimate left its range, and so it is off from now on.
-    Halted,
 }

@@ -105,7 +105,7 @@ impl Computer {
     }
 
     /// Steps over the oldest frame that waits.
-    #[tactic(auto, unfolding(crate::specs::ComputerState::after_run, crate::specs::ComputerState::run_in, crate::specs::ComputerState::run_over_oldest, crate::specs::ComputerState::after_step, crate::specs::ComputerState::run_answer, crate::specs::ComputerState::run_answer_in, crate::specs::ComputerState::oldest_answer, crate::specs::ComputerState::step_answer))]
+    #[tactic(auto, unfolding(crate::specs::ComputerState::after_run, crate::specs::ComputerState::run_in, crate::specs::ComputerState::run_over_oldest, crate::specs::ComputerState::after_step, crate::specs::ComputerState::run_answer, crate::specs::ComputerState::run_answer_in, crate::specs::ComputerState::oldest_answer))]
     pub(crate) fn run(&mut self) -> Ran
         ensures new { self.new ≡ after_run self.old }
         ensures answer { result ≡ run_answer self.old }
@@ -115,18 +115,11 @@ impl Computer {
             Mode::Aligning => Ran::Aligning,
             Mode::Live => match self.waits.pop_front() {
                 None => Ran::Idle,
-                Some(f) => match self.machine.step(&f) {
-                    Ok(issue) => {
-                        self.last = Some(issue.copy());
-                        Ran::Issued(issue)
-                    }
-                    Err(_) => {
-                        self.mode = Mode::Off;
-                        self.waits.clear();
-                        self.last = None;
-                        Ran::Halted
-                    }
-                },
+                Some(f) => {
+                    let issue = self.machine.step(&f);
+                    self.last = Some(issue.copy());
+                    Ran::Issued(issue)
+                }
             },
         }
     }

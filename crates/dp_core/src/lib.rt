@@ -12,7 +12,7 @@
 //! are what the list's history says; [`World::new`] represents the empty list, and after [`World::apply`] of an event a world represents
 //! its list followed by that event, with the answer that the history gives; so it is with the call of each kind.
 //!
-//! A computer is faulty from a Skew or a Say of it on, until it breaks: is stopped, diverges or overruns. So a skewed computer counts as
+//! A computer is faulty from a Skew or a Say of it on, until it breaks: is stopped or overruns. So a skewed computer counts as
 //! faulty, though its orders are what it believes. [`laws`] says, for every list of events in which at most one computer is faulty in any
 //! cycle, that a live computer that isn't skewed has come to the state of the reference run, one computer alone over all the frames, and
 //! that every fresh ballot is the reference run's force; that two computers that aren't faulty and are heard make a ballot fresh; and,

@@ -1,5 +1,5 @@
 -- What holds of a machine's parts goes on holding, cycle after cycle.
-use Rattle.std.proofs.Common.{◌≡◌, ◌<◌, ◌^◌, ℕ, zero, suc, ◌+◌, ◌-◌, min, List, [], ◌∷◌, ◌++◌, length, All, sym, ◌∙◌, ap, subst, arith, ℤ}
+use Rattle.std.proofs.Common.{◌≡◌, ℕ, zero, suc, ◌+◌, ◌-◌, min, List, [], ◌∷◌, ◌++◌, length, All, sym, ◌∙◌, ap, subst, arith, ℤ}
 use Rattle.std.proofs.lemmas.List.{length-append, length-drop}
 use Rattle.std.proofs.lemmas.List.Elements.{All-append, All-drop}
 use Rattle.circular_buffer.specs.Buffer.{Buffer, buffer, keep_last}
@@ -10,9 +10,8 @@ use Rattle.dp_plant.specs.declared.references.RefLimits.{RefLimits}
 use Rattle.dp_reftest.specs.declared.kept.Kept.{Kept}
 use Rattle.dp_reftest.specs.Tested.{Tested, tested_by}
 use Rattle.dp_reftest.specs.Window.{last_of}
-use Rattle.dp_machine.specs.declared.estimates.Estimates.{Estimates}
 use Rattle.dp_machine.specs.declared.references.References.{References}
-use Rattle.dp_machine.specs.Parts.{AreDemands, AreEstimates, AreReferences, AreTaken}
+use Rattle.dp_machine.specs.Parts.{AreDemands, AreReferences, AreTaken}
 use Rattle.dp_alloc.specs.Ranges.{IsDemandWithin}
 use Rattle.dp_machine.specs.Step.{limits_at}
 
@@ -68,15 +67,4 @@ demands_set n ring after items c few within e = record {
   capacity = ap (λ (b : Buffer (List ℤ)). b.capacity) e ∙ c;
   few = ap (λ (b : Buffer (List ℤ)). length b.items) e ∙ few;
   within = subst (λ (b : Buffer (List ℤ)). All IsDemandWithin b.items) (sym e) within;
-}
-
--- ---- the estimates
-pub estimates_go : (p : Plant) (now : Estimates) → AreEstimates p now → now.count < 2 ^ 20 → AreEstimates p (record now { count = now.count + 1 })
-estimates_go p now are l = record {
-  count = omega arith;
-  plane = are.plane;
-  yaw = are.yaw;
-  heading = are.heading;
-  wind = are.wind;
-  lost = are.lost;
 }

@@ -1,7 +1,6 @@
 -- Each demand of a cycle is in the box of its case, and so each force within its thruster's limits.
-use Rattle.std.proofs.Common.{◌≡◌, ℕ, List, [], ◌∷◌, Option, Some, None, refl, ap, subst, sym, arith, ℤ, pos, ◌+ℤ◌, ◌*ℤ◌, ◌≤ℤ◌, ◌<ℤ◌}
+use Rattle.std.proofs.Common.{◌≡◌, ℕ, Option, Some, None, refl, arith, ℤ, ◌+ℤ◌, ◌*ℤ◌, ◌≤ℤ◌, ◌<ℤ◌}
 use Rattle.std.proofs.lemmas.Int.{clamps, ints}
-use Rattle.std.specs.Prelude.{slice_get}
 use Rattle.dp_fixed.proofs.Divisions.{floor_is}
 use Rattle.dp_fixed.specs.Division.{floor_of}
 use Rattle.dp_fixed.specs.Order.{clamp_of}
@@ -17,12 +16,11 @@ use Rattle.dp_plant.specs.declared.limits.Box3.{Box3}
 use Rattle.dp_plant.specs.declared.limits.Setpoint.{Setpoint}
 use Rattle.dp_plant.specs.declared.plant.Plant.{Plant}
 use Rattle.dp_plant.specs.declared.thrusters.RawCase.{RawCase}
-use Rattle.dp_alloc.specs.Laws.{ForcesAreWithinLimits, IsForceWithin}
+use Rattle.dp_alloc.specs.Laws.{ForcesAreWithinLimits}
 use Rattle.dp_machine.specs.declared.sensed.Sensed.{Sensed}
 use Rattle.dp_machine.specs.declared.state.State.{State}
 use Rattle.dp_machine.specs.Laws.{IssuesAreWithinLimits}
-use Rattle.dp_machine.specs.Step.{Step, forces_by, plane_by, plane_in, sensed_of, step_at, whole_demand, yaw_by, yaw_in}
-use Rattle.dp_machine.proofs.Issues.{made, step_made}
+use Rattle.dp_machine.specs.Step.{forces_by, plane_by, plane_in, sensed_of, step_at, whole_demand, yaw_by, yaw_in}
 
 -- ---- a demand is in its range
 
@@ -82,10 +80,8 @@ demand_in_box p at s f h =
     }
 
 pub within_limits : (give : ForcesAreWithinLimits) → IssuesAreWithinLimits
-unfolding made forces_by
-within_limits give p at s f t accepted e k force is =
+unfolding step_at forces_by
+within_limits give p at s f accepted k force is =
     let h = sensed_of s f in
-    let m = step_made p at s f t e in
     let demand = whole_demand (plane_in p at s f h) (yaw_in p at s h) in
-    let forces = subst (λ (u : Step). slice_get u.issue.forces.items k ≡ Some force) m is in
-    subst (λ (u : Step). IsForceWithin p u.next.lost k force) (sym m) (give p accepted h.lost demand (demand_in_box p at s f h) k force forces)
+    give p accepted h.lost demand (demand_in_box p at s f h) k force is

@@ -1,5 +1,6 @@
 pub mod Cases
 pub mod Sounds
+pub mod Certified
 pub mod YawRanges
 pub mod Steps
 pub mod OneCycle

@@ -1,19 +1,17 @@
 -- The parts of a cycle, put together.
-use Rattle.std.proofs.Common.{◌≡◌, ℕ, Bool, List, Option, Some, None, SomeIff, refl, sym, ◌∙◌, ap, subst, ℤ, ◌+ℤ◌}
+use Rattle.std.proofs.Common.{◌≡◌, ℕ, Bool, List, Option, refl, sym, ◌∙◌, ap, ℤ, ◌+ℤ◌}
 use Rattle.dp_plant.specs.declared.limits.Setpoint.{Setpoint}
 use Rattle.dp_plant.specs.declared.place.Place.{Place}
 use Rattle.dp_plant.specs.declared.plane.PlaneState.{PlaneState}
 use Rattle.dp_plant.specs.declared.plant.Plant.{Plant}
 use Rattle.dp_plant.specs.declared.yaw.YawState.{YawState}
 use Rattle.dp_plant.specs.Observer.{plane_next}
-use Rattle.dp_plant.specs.Ranges.{IsPlaneWithin}
 use Rattle.dp_plant.specs.Step.{PlaneStep, push_of}
 use Rattle.dp_plant.specs.Vectors.{entry}
 use Rattle.dp_plant.specs.Yaw.{YawStep, yaw_next}
-use Rattle.dp_plant.specs.YawRanges.{IsYawWithin}
 use Rattle.dp_machine.specs.declared.estimates.Estimates.{Estimates}
 use Rattle.dp_machine.specs.declared.sensed.Sensed.{Sensed}
-use Rattle.dp_machine.specs.Parts.{estimates_by, joined_estimates, limited_cycle, plane_cycle, yaw_cycle}
+use Rattle.dp_machine.specs.Parts.{estimates_by, limited_cycle, plane_cycle, yaw_cycle}
 use Rattle.dp_machine.specs.Step.{limited_by, plane_by, push_by, whole_demand, yaw_by}
 
 -- ---- the next states, by the whole demand
@@ -26,14 +24,6 @@ yaw_next_is : (p : Plant) (at : Setpoint) (lost : ℕ) (wind : List ℤ) (x : Ya
     → (yaw_by p at lost wind x h).next ≡ yaw_next p.yaw x h (entry (whole_demand plane (yaw_by p at lost wind x h)) 2 +ℤ entry wind 2)
 unfolding yaw_by
 yaw_next_is p at lost wind x h plane = refl
-
--- ---- both estimates are there exactly where each is
-joined_is : (now : Estimates) (h : Sensed) (o : Option PlaneState) (q : Option YawState) (x : PlaneState) (y : YawState)
-    → SomeIff o (IsPlaneWithin x) x → SomeIff q (IsYawWithin y) y
-    → SomeIff (joined_estimates now h o q) (IsPlaneWithin x × IsYawWithin y) (estimates_by now h x y)
-joined_is now h (Some a) (Some b) x y k l = ((k.0, l.0), ap (λ (z : PlaneState). estimates_by now h z b) k.1 ∙ ap (λ (z : YawState). estimates_by now h x z) l.1)
-joined_is now h (Some a) None x y k l = λ both. l both.1
-joined_is now h None q x y k l = λ both. k both.0
 
 module _ (p : Plant) (at : Setpoint) (now : Estimates) (h : Sensed) (pair : ℤ × ℤ) (place : Option Place) (wind demand : List ℤ)
     (pushed : wind ≡ push_by p h.gust)
@@ -58,15 +48,9 @@ module _ (p : Plant) (at : Setpoint) (now : Estimates) (h : Sensed) (pair : ℤ 
       ∙ sym (yaw_next_is p at h.lost wind now.yaw h.heading (plane_by p at h.lost pair wind now.plane place))
       ∙ ap (λ (w : List ℤ). (yaw_by p at h.lost w now.yaw h.heading).next) pushed
 
-  pub cycle_next : (o : Option PlaneState) (q : Option YawState) (next : Option Estimates)
-      → SomeIff o (IsPlaneWithin (plane_next p.gains now.plane place (push_of demand wind) pair)) (plane_next p.gains now.plane place (push_of demand wind) pair)
-      → SomeIff q (IsYawWithin (yaw_next p.yaw now.yaw h.heading (entry demand 2 +ℤ entry wind 2))) (yaw_next p.yaw now.yaw h.heading (entry demand 2 +ℤ entry wind 2))
-      → next ≡ joined_estimates now h o q
-      → SomeIff next (IsPlaneWithin (plane_cycle p at now h pair place).next × IsYawWithin (yaw_cycle p at now h).next) (estimates_by now h (plane_cycle p at now h pair place).next (yaw_cycle p at now h).next)
-  cycle_next o q next k l j =
-      let x = (plane_cycle p at now h pair place).next in
-      let y = (yaw_cycle p at now h).next in
-      subst (λ (n : Option Estimates). SomeIff n (IsPlaneWithin x × IsYawWithin y) (estimates_by now h x y)) (sym j)
-      (joined_is now h o q x y
-      (subst (λ (z : PlaneState). SomeIff o (IsPlaneWithin z) z) plane_cycle_next k)
-      (subst (λ (z : YawState). SomeIff q (IsYawWithin z) z) yaw_cycle_next l))
+  pub cycle_next : (x : PlaneState) (y : YawState) (next : Estimates) → x ≡ plane_next p.gains now.plane place (push_of demand wind) pair
+      → y ≡ yaw_next p.yaw now.yaw h.heading (entry demand 2 +ℤ entry wind 2) → next ≡ estimates_by now h x y
+      → next ≡ estimates_by now h (plane_cycle p at now h pair place).next (yaw_cycle p at now h).next
+  cycle_next x y next k l j =
+      j ∙ ap (λ (z : PlaneState). estimates_by now h z y) (k ∙ plane_cycle_next)
+      ∙ ap (λ (z : YawState). estimates_by now h (plane_cycle p at now h pair place).next z) (l ∙ yaw_cycle_next)

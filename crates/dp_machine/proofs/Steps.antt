@@ -1,21 +1,16 @@
 -- A cycle made from its parts is the step.
-use Rattle.std.proofs.Common.{◌≡◌, ◌≤◌, ◌^◌, ℕ, ◌+◌, ◌-◌, Bool, true, false, ◌&&◌, cond, leb, List, [], ◌∷◌, ◌++◌, Option, Some, None, SomeIff, unwrap_or, refl, sym, ◌∙◌, ap, subst, arith, ℤ, unsigned_abs}
-use Rattle.std.proofs.lemmas.Bool.Decides.{nat_tests}
+use Rattle.std.proofs.Common.{◌≡◌, ℕ, ◌+◌, ◌-◌, Bool, List, [], ◌∷◌, ◌++◌, Option, unwrap_or, refl, sym, ◌∙◌, ap, arith, ℤ}
 use Rattle.dp_consequence.specs.{mean_demand}
 use Rattle.dp_plant.specs.declared.alarms.Alarms.{Alarms}
 use Rattle.dp_plant.specs.declared.frames.Frame.{Frame}
 use Rattle.dp_plant.specs.declared.frames.Slot.{Slot}
 use Rattle.dp_plant.specs.declared.limits.Setpoint.{Setpoint}
 use Rattle.dp_plant.specs.declared.place.Place.{Place}
-use Rattle.dp_plant.specs.declared.plane.PlaneState.{PlaneState}
 use Rattle.dp_plant.specs.declared.plant.Plant.{Plant}
 use Rattle.dp_plant.specs.declared.references.RefLimits.{RefLimits}
 use Rattle.dp_plant.specs.declared.references.Verdict.{Verdict}
-use Rattle.dp_plant.specs.declared.yaw.YawState.{YawState}
-use Rattle.dp_plant.specs.Ranges.{IsPlaneWithin}
 use Rattle.dp_plant.specs.Step.{PlaneStep}
 use Rattle.dp_plant.specs.Yaw.{YawStep}
-use Rattle.dp_plant.specs.YawRanges.{IsYawWithin}
 use Rattle.dp_reftest.specs.declared.kept.Kept.{Kept}
 use Rattle.dp_reftest.specs.Tested.{Tested}
 use Rattle.dp_reftest.specs.Verdict.{verdict_of}
@@ -26,111 +21,12 @@ use Rattle.dp_machine.specs.declared.references.References.{References}
 use Rattle.dp_machine.specs.declared.sensed.Sensed.{Sensed}
 use Rattle.dp_machine.specs.declared.state.State.{State}
 use Rattle.dp_machine.specs.Parts.{AreReferences, AreTaken, estimates_by, limited_cycle, plane_cycle, state_by, taken, verdicts_by, yaw_cycle}
-use Rattle.dp_machine.specs.Step.{Step, alarms_by, alarms_in, forces_by, is_near, is_place_near, is_within, limited_in, limits_at, measured_at, measured_by, plane_in, sensed_by, sensed_of, step_at, step_by, verdicts_of, whole_demand, yaw_in}
+use Rattle.dp_machine.specs.Step.{Step, alarms_by, alarms_in, forces_by, limited_in, limits_at, measured_at, measured_by, plane_in, sensed_by, sensed_of, step_at, step_by, verdicts_of, whole_demand, yaw_in}
 
--- ---- the test of the ranges
-both : (a b : Bool) → a ≡ true → b ≡ true → (a && b) ≡ true
-both true b e f = f
-both false b e f = absurd cc
-
-left : (a b : Bool) → (a && b) ≡ true → a ≡ true
-left true b e = refl
-left false b e = absurd cc
-
-right : (a b : Bool) → (a && b) ≡ true → b ≡ true
-right true b e = e
-right false b e = absurd cc
-
-small : (n m : ℕ) → n ≤ m → leb n m ≡ true
-small n m le = grind (arith, nat_tests)
-
-is_small : (n m : ℕ) → leb n m ≡ true → n ≤ m
-is_small n m e = grind (arith, nat_tests)
-
-near_both : (p : Place) → unsigned_abs p.north ≤ 2 ^ 56 → unsigned_abs p.east ≤ 2 ^ 56 → is_place_near p ≡ true
-near_both p n e = both _ _ (small _ _ n) (small _ _ e)
-
-near_north : (p : Place) → is_place_near p ≡ true → unsigned_abs p.north ≤ 2 ^ 56
-near_north p e = is_small _ _ (left (is_near p.north) (is_near p.east) e)
-
-near_east : (p : Place) → is_place_near p ≡ true → unsigned_abs p.east ≤ 2 ^ 56
-near_east p e = is_small _ _ (right (is_near p.north) (is_near p.east) e)
-
-within_true : (x : PlaneState) (yaw : YawState) → IsPlaneWithin x → IsYawWithin yaw → is_within x yaw ≡ true
-unfolding is_within
-within_true x yaw w y =
-    let eta = near_both x.eta w.north.eta w.east.eta in
-    let beta = near_both x.beta w.north.beta w.east.beta in
-    let vel = near_both x.vel w.north.vel w.east.vel in
-    let wave_p = near_both x.wave_p w.north.wave_p w.east.wave_p in
-    let wave_q = near_both x.wave_q w.north.wave_q w.east.wave_q in
-    both _ _ (both _ _ (both _ _ eta beta) (both _ _ vel wave_p))
-    (both _ _ wave_q (both _ _ (small _ _ y.psi) (both _ _ (small _ _ y.beta) (small _ _ y.rate))))
-
-first_half : PlaneState → Bool
-first_half x = (is_place_near x.eta && is_place_near x.beta) && (is_place_near x.vel && is_place_near x.wave_p)
-
-second_half : PlaneState → YawState → Bool
-second_half x yaw = is_place_near x.wave_q && (is_near yaw.psi && (is_near yaw.beta && is_near yaw.rate))
-
-plane_from : (x : PlaneState) → first_half x ≡ true → is_place_near x.wave_q ≡ true → IsPlaneWithin x
-unfolding first_half
-plane_from x e wave_q =
-    let slow = left (is_place_near x.eta && is_place_near x.beta) (is_place_near x.vel && is_place_near x.wave_p) e in
-    let fast = right (is_place_near x.eta && is_place_near x.beta) (is_place_near x.vel && is_place_near x.wave_p) e in
-    let eta = left (is_place_near x.eta) (is_place_near x.beta) slow in
-    let beta = right (is_place_near x.eta) (is_place_near x.beta) slow in
-    let vel = left (is_place_near x.vel) (is_place_near x.wave_p) fast in
-    let wave_p = right (is_place_near x.vel) (is_place_near x.wave_p) fast in
-    record {
-      north = record { eta = near_north x.eta eta; beta = near_north x.beta beta; vel = near_north x.vel vel; wave_p = near_north x.wave_p wave_p; wave_q = near_north x.wave_q wave_q };
-      east = record { eta = near_east x.eta eta; beta = near_east x.beta beta; vel = near_east x.vel vel; wave_p = near_east x.wave_p wave_p; wave_q = near_east x.wave_q wave_q };
-    }
-
-yaw_from : (yaw : YawState) → (is_near yaw.psi && (is_near yaw.beta && is_near yaw.rate)) ≡ true → IsYawWithin yaw
-yaw_from yaw e =
-    let rest = right (is_near yaw.psi) (is_near yaw.beta && is_near yaw.rate) e in
-    record {
-      psi = is_small _ _ (left (is_near yaw.psi) (is_near yaw.beta && is_near yaw.rate) e);
-      beta = is_small _ _ (left (is_near yaw.beta) (is_near yaw.rate) rest);
-      rate = is_small _ _ (right (is_near yaw.beta) (is_near yaw.rate) rest);
-    }
-
-within_from : (x : PlaneState) (yaw : YawState) → is_within x yaw ≡ true → IsPlaneWithin x × IsYawWithin yaw
-unfolding is_within first_half second_half
-within_from x yaw e =
-    let one = left (first_half x) (second_half x yaw) e in
-    let two = right (first_half x) (second_half x yaw) e in
-    let turned = is_near yaw.psi && (is_near yaw.beta && is_near yaw.rate) in
-    (plane_from x one (left (is_place_near x.wave_q) turned two), yaw_from yaw (right (is_place_near x.wave_q) turned two))
-
-within_false : (x : PlaneState) (yaw : YawState) → (IsPlaneWithin x × IsYawWithin yaw → ⊥) → is_within x yaw ≡ false
-within_false x yaw out = by (is_within x yaw) refl
-  where
-    by : (b : Bool) → is_within x yaw ≡ b → is_within x yaw ≡ false
-    by true e = absurd (out (within_from x yaw e))
-    by false e = e
-
--- ---- a state's step, by its ranges
-step_ok : (p : Plant) (at : Setpoint) (s : State) (f : Frame) → IsPlaneWithin (plane_in p at s f (sensed_of s f)).next
-    → IsYawWithin (yaw_in p at s (sensed_of s f)).next
-    → step_at p at s f ≡ Some (step_by p at s f (sensed_of s f) (whole_demand (plane_in p at s f (sensed_of s f)) (yaw_in p at s (sensed_of s f))) (plane_in p at s f (sensed_of s f)).next (yaw_in p at s (sensed_of s f)).next)
+whole_step : (p : Plant) (at : Setpoint) (s : State) (f : Frame)
+    → step_at p at s f ≡ step_by p at s f (sensed_of s f) (whole_demand (plane_in p at s f (sensed_of s f)) (yaw_in p at s (sensed_of s f))) (plane_in p at s f (sensed_of s f)).next (yaw_in p at s (sensed_of s f)).next
 unfolding step_at
-step_ok p at s f plane yaw =
-    let h = sensed_of s f in
-    let x = plane_in p at s f h in
-    let y = yaw_in p at s h in
-    ap (λ (b : Bool). cond b (Some (step_by p at s f h (whole_demand x y) x.next y.next)) None) (within_true x.next y.next plane yaw)
-
-step_err : (p : Plant) (at : Setpoint) (s : State) (f : Frame)
-    → (IsPlaneWithin (plane_in p at s f (sensed_of s f)).next × IsYawWithin (yaw_in p at s (sensed_of s f)).next → ⊥)
-    → step_at p at s f ≡ None
-unfolding step_at
-step_err p at s f out =
-    let h = sensed_of s f in
-    let x = plane_in p at s f h in
-    let y = yaw_in p at s h in
-    ap (λ (b : Bool). cond b (Some (step_by p at s f h (whole_demand x y) x.next y.next)) None) (within_false x.next y.next out)
+whole_step p at s f = refl
 
 -- ---- the tests of the references after the frame
 verdict_is : (t u : Tested) (limits : RefLimits) (n : ℕ) (slot : Slot Place) → t.limits ≡ limits → u ≡ taken t n slot
@@ -220,40 +116,30 @@ module _ (p : Plant) (at : Setpoint) (now : Estimates) (refs after : References)
       ap (λ (x : Sensed). limited_cycle p at now x pair) hs
       ∙ ap (λ (z : ℤ × ℤ). limited_cycle p at now h z) pair_is
 
-  IsNext : Option Estimates → PlaneStep → YawStep → Sensed → Type 0
-  IsNext o plane yaw x = SomeIff o (IsPlaneWithin plane.next × IsYawWithin yaw.next) (estimates_by now x plane.next yaw.next)
-
-  next_is : (o : Option Estimates)
-      → SomeIff o (IsPlaneWithin (plane_cycle p at now sensed pair place).next × IsYawWithin (yaw_cycle p at now sensed).next) (estimates_by now sensed (plane_cycle p at now sensed pair place).next (yaw_cycle p at now sensed).next)
-      → IsNext o (plane_in p at s f h) (yaw_in p at s h) h
-  unfolding IsNext h
-  next_is o n =
-      subst (λ (x : Sensed). IsNext o (plane_in p at s f h) (yaw_in p at s h) x) hs
-      (subst (λ (y : YawStep). IsNext o (plane_in p at s f h) y sensed) yaw_is
-      (subst (λ (x : PlaneStep). IsNext o x (yaw_cycle p at now sensed) sensed) plane_is n))
+  next_is : (next : Estimates) → next ≡ estimates_by now sensed (plane_cycle p at now sensed pair place).next (yaw_cycle p at now sensed).next
+      → next ≡ estimates_by now h (plane_in p at s f h).next (yaw_in p at s h).next
+  unfolding h
+  next_is next e =
+      e ∙ ap (λ (x : PlaneStep). estimates_by now sensed x.next (yaw_cycle p at now sensed).next) plane_is
+      ∙ ap (λ (y : YawStep). estimates_by now sensed (plane_in p at s f h).next y.next) yaw_is
+      ∙ ap (λ (x : Sensed). estimates_by now x (plane_in p at s f h).next (yaw_in p at s h).next) hs
 
   pub step_is : (demand forces : List ℤ) (limited : List Bool) (demands : List (List ℤ)) (alarms : Alarms) (next : Estimates)
       → demand ≡ whole_demand (plane_cycle p at now sensed pair place) (yaw_cycle p at now sensed) → limited ≡ limited_cycle p at now sensed pair
-      → SomeIff (Some next) (IsPlaneWithin (plane_cycle p at now sensed pair place).next × IsYawWithin (yaw_cycle p at now sensed).next) (estimates_by now sensed (plane_cycle p at now sensed pair place).next (yaw_cycle p at now sensed).next)
+      → next ≡ estimates_by now sensed (plane_cycle p at now sensed pair place).next (yaw_cycle p at now sensed).next
       → forces ≡ forces_by p sensed.lost demand → demands ≡ last_of 60 (ds ++ demand ∷ []) → alarms ≡ alarms_by p verdicts f place sensed limited (mean_demand demands)
       → step_at p at (state_by now refs ds) f
-      ≡ Some (record { issue = record { cycle = now.count; forces = record { items = forces }; demand = demand; alarms = alarms }; next = state_by next after demands })
-  unfolding made IsNext s h
+      ≡ record { issue = record { cycle = now.count; forces = record { items = forces }; demand = demand; alarms = alarms }; next = state_by next after demands }
+  unfolding made s h
   step_is demand forces limited demands alarms next hd hl hn hf hds ha =
       let x = plane_in p at s f h in
       let y = yaw_in p at s h in
-      let n = next_is (Some next) hn in
       let d : demand ≡ whole_demand x y = hd ∙ ap (λ (z : PlaneStep). whole_demand z (yaw_cycle p at now sensed)) plane_is ∙ ap (λ (z : YawStep). whole_demand x z) yaw_is in
       let fs : forces ≡ forces_by p h.lost (whole_demand x y) = hf ∙ ap (λ (z : Sensed). forces_by p z.lost demand) hs ∙ ap (λ (z : List ℤ). forces_by p h.lost z) d in
       let dds : demands ≡ last_of 60 (ds ++ whole_demand x y ∷ []) = hds ∙ ap (λ (z : List ℤ). last_of 60 (ds ++ z ∷ [])) d in
       let warned : alarms ≡ alarms_in p at s f h (whole_demand x y) =
       ha ∙ alarms_same p f _ _ _ _ _ _ _ _ _ _ verdicts_are place_is hs (hl ∙ limited_is) dds in
-      step_ok p at s f n.0.0 n.0.1 ∙ ap (λ (t : Step). Some t) (made_same _ _ _ _ _ _ _ _ _ _ _ _ _ _ _ _ _ (sym d) (sym fs) (sym warned) (sym dds) (sym n.1)
+      whole_step p at s f ∙ made_same _ _ _ _ _ _ _ _ _ _ _ _ _ _ _ _ _ (sym d) (sym fs) (sym warned) (sym dds) (sym (next_is next hn))
       (sym (window_is refs.first after.first (limits_at p 0) now.count (slot_of f.pos 0) are.first_limits heard.first))
       (sym (window_is refs.second after.second (limits_at p 1) now.count (slot_of f.pos 1) are.second_limits heard.second))
-      (sym (window_is refs.third after.third (limits_at p 2) now.count (slot_of f.pos 2) are.third_limits heard.third)))
-
-  pub step_is_none : (IsPlaneWithin (plane_cycle p at now sensed pair place).next × IsYawWithin (yaw_cycle p at now sensed).next → ⊥)
-      → step_at p at (state_by now refs ds) f ≡ None
-  unfolding IsNext s h
-  step_is_none out = step_err p at s f (next_is None out)
+      (sym (window_is refs.third after.third (limits_at p 2) now.count (slot_of f.pos 2) are.third_limits heard.third))

@@ -89,11 +89,15 @@ wide x range =
     let rate = range.rate in
     record { psi = omega (arith, ints); beta = omega (arith, ints); rate = omega (arith, ints) }
 
--- ---- what the observer answers, where the push is known by another name
+-- ---- what the observer makes of it, where the push is known by another name
 pub same_next : (g : YawGains) (x : YawState) (h : Option ℕ) (push sum : ℤ) (next : YawState) → push ≡ sum → next ≡ yaw_next g x h push
-    → IsYawWithin (yaw_next g x h push) → IsYawWithin (yaw_next g x h sum) × (next ≡ yaw_next g x h sum)
-same_next g x h push sum next e is w =
-    (subst (λ (d : ℤ). IsYawWithin (yaw_next g x h d)) e w, is ∙ ap (λ (d : ℤ). yaw_next g x h d) e)
+    → next ≡ yaw_next g x h sum
+same_next g x h push sum next e is = is ∙ ap (λ (d : ℤ). yaw_next g x h d) e
+
+pub next_wide : (g : YawGains) (x : YawState) (h : Option ℕ) (push sum : ℤ) → push ≡ sum → IsYawGains g → IsYawInRange x → unsigned_abs sum ≤ 2 ^ 39
+    → IsYawWithin (yaw_next g x h push)
+next_wide g x h push sum e gains range s =
+    subst (λ (d : ℤ). IsYawWithin (yaw_next g x h d)) (sym e) (wide (yaw_next g x h sum) (next_range g x h sum gains range s))
 
 pub next_stays : (g : YawGains) (x : YawState) (h : Option ℕ) (push sum : ℤ) (next : YawState) → push ≡ sum → next ≡ yaw_next g x h push
     → IsYawGains g → IsYawInRange x → unsigned_abs sum ≤ 2 ^ 39 → IsYawInRange next

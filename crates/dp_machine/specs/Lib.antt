@@ -15,6 +15,6 @@ pub use Rattle.dp_machine.specs.Step.{alarms_by, first_state, forces_by, kept_at
 pub use Rattle.dp_machine.specs.Ranges.{IsStateWithin, IsYawInRange}
 pub use Rattle.dp_machine.specs.Accepted.{IsAcceptedPlant}
 pub use Rattle.dp_machine.specs.Machine.{MachineValue, first_machine, one_more, with_rest, with_state}
-pub use Rattle.dp_machine.specs.Parts.{AreEstimates, AreTaken, estimates_by, estimates_of, joined_estimates, limited_cycle, plane_cycle, verdicts_by, windows_by, yaw_cycle}
+pub use Rattle.dp_machine.specs.Parts.{AreEstimates, AreTaken, estimates_by, estimates_of, limited_cycle, plane_cycle, verdicts_by, windows_by, yaw_cycle}
 pub use Rattle.dp_machine.specs.Inside.{IsMachine, value_of}
 pub use Rattle.dp_machine.specs.Laws.{IssuesAreOfTheirCycle, IssuesAreWithinLimits, IssuesHaveAForceForEachThruster}

@@ -1,11 +1,11 @@
 -- A state in the parts in which a machine holds it.
-use Rattle.std.specs.Prelude.{◌≡◌, ◌<◌, ◌≤◌, ◌^◌, ◌+◌, ◌-◌, ℕ, Bool, min, List, [], ◌∷◌, All, length, ℤ, Option, Some, None, unwrap_or}
+use Rattle.std.specs.Prelude.{◌≡◌, ◌<◌, ◌≤◌, ◌^◌, ◌+◌, ◌-◌, ℕ, Bool, min, List, [], ◌∷◌, All, length, ℤ, Option, unwrap_or}
 use Rattle.std.specs.Option.{option_map}
 use Rattle.circular_buffer.specs.Buffer.{Buffer}
 use Rattle.dp_plant.specs.declared.frames.Slot.{Slot}
 use Rattle.dp_plant.specs.declared.place.Place.{Place}
 use Rattle.dp_plant.specs.declared.plant.Plant.{Plant}
-use Rattle.dp_plant.specs.Ranges.{IsPlaneWithin}
+use Rattle.dp_cert.specs.CertifiedSet.{IsInCertifiedSet}
 use Rattle.dp_reftest.specs.declared.kept.Kept.{Kept}
 use Rattle.dp_reftest.specs.Tested.{Tested, tested_by}
 use Rattle.dp_reftest.specs.Window.{slot_of, window_next}
@@ -54,7 +54,7 @@ estimates_of s = record {
 -- the ranges of estimates
 pub record AreEstimates (p : Plant) (now : Estimates) : Type 0 where
   pub count : now.count ≤ 2 ^ 20
-  pub plane : IsPlaneWithin now.plane
+  pub plane : IsInCertifiedSet p.cert now.plane
   pub yaw : IsYawInRange now.yaw
   pub heading : now.heading < 36000
   pub wind : now.wind < 36000
@@ -114,10 +114,3 @@ estimates_by now h plane yaw = record {
   wind = unwrap_or (option_map (λ g. g.angle) h.gust) now.wind;
   lost = h.lost;
 }
-
--- where both stay in range
-abbrev pub joined_estimates : Estimates → Sensed → Option PlaneState → Option YawState
-    → Option Estimates
-joined_estimates now h (Some plane) (Some yaw) = Some (estimates_by now h plane yaw)
-joined_estimates now h (Some plane) None = None
-joined_estimates now h None yaw = None

@@ -2,7 +2,7 @@
 use Rattle.std.specs.Prelude.{◌≡◌, ◌<◌, ◌≤◌, ◌^◌, min, All, length, pos, ◌≤ℤ◌, ◌<ℤ◌, unsigned_abs}
 use Rattle.dp_plant.specs.declared.plant.Plant.{Plant}
 use Rattle.dp_plant.specs.declared.yaw.YawState.{YawState}
-use Rattle.dp_plant.specs.Ranges.{IsPlaneWithin}
+use Rattle.dp_cert.specs.CertifiedSet.{IsInCertifiedSet}
 use Rattle.dp_alloc.specs.Ranges.{IsDemandWithin}
 use Rattle.dp_plant.specs.Yaw.{turn}
 use Rattle.dp_reftest.specs.Window.{IsKept}
@@ -20,7 +20,8 @@ pub record IsYawInRange (x : YawState) : Type 0 where
 -- the ranges of the states of a plant's computers
 pub record IsStateWithin (p : Plant) (s : State) : Type 0 where
   pub count : s.count ≤ 2 ^ 20
-  pub plane : IsPlaneWithin s.plane
+  -- without a wave filter there are no waves, and the form V is at most N²
+  pub plane : IsInCertifiedSet p.cert s.plane
   pub yaw : IsYawInRange s.yaw
   pub heading : s.heading < 36000
   pub wind : s.wind < 36000

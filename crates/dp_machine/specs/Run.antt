@@ -1,5 +1,5 @@
 -- Cycles one after another: the step folded over frames, with a setpoint for each cycle.
-use Rattle.std.specs.Prelude.{ℕ, zero, suc, ◌+◌, List, [], ◌∷◌, take, drop, Option, Some, None}
+use Rattle.std.specs.Prelude.{ℕ, zero, suc, List, [], ◌∷◌, take, drop, Option, Some, None}
 use Rattle.dp_plant.specs.declared.frames.Frame.{Frame}
 use Rattle.dp_plant.specs.declared.limits.Setpoint.{Setpoint}
 use Rattle.dp_plant.specs.declared.plant.Plant.{Plant}
@@ -16,32 +16,20 @@ abbrev pub own_setpoints : Plant → Setpoints
 own_setpoints p = λ n. p.setpoint
 
 -- the step of the cycle that a state comes to
-abbrev pub cycle_at : Plant → Setpoints → State → Frame → Option Step
+abbrev pub cycle_at : Plant → Setpoints → State → Frame → Step
 cycle_at p sets s f = step_at p (sets s.count) s f
-
--- the state after a cycle; one in which an estimate leaves its range counts, and holds the rest of
--- the state
-unfoldable pub state_after : State → Option Step → State
-state_after s (Some t) = t.next
-state_after s None = record s { count = s.count + 1 }
-
--- what a cycle issues, if its estimates stay in range
-unfoldable pub issue_of : Option Step → Option Issue
-issue_of (Some t) = Some t.issue
-issue_of None = None
 
 -- the state after a list of frames
 unfoldable pub run_over : Plant → Setpoints → State → List Frame → State
 run_over p sets s [] = s
-run_over p sets s (f ∷ fs) = run_over p sets (state_after s (cycle_at p sets s f)) fs
+run_over p sets s (f ∷ fs) = run_over p sets (cycle_at p sets s f).next fs
 
 -- from a state on, over the next n of all the frames that came
 unfoldable pub run_on : Plant → Setpoints → List Frame → State → ℕ → State
 run_on p sets fs s n = run_over p sets s (take n (drop s.count fs))
 
--- the issue of the nth frame from a state on, if it came and the estimates stay in range
+-- the issue of the nth frame from a state on, if it came
 unfoldable pub issue_after : Plant → Setpoints → State → List Frame → ℕ → Option Issue
 issue_after p sets s [] n = None
-issue_after p sets s (f ∷ fs) zero = issue_of (cycle_at p sets s f)
-issue_after p sets s (f ∷ fs) (suc n) =
-    issue_after p sets (state_after s (cycle_at p sets s f)) fs n
+issue_after p sets s (f ∷ fs) zero = Some (cycle_at p sets s f).issue
+issue_after p sets s (f ∷ fs) (suc n) = issue_after p sets (cycle_at p sets s f).next fs n

@@ -1,5 +1,5 @@
 -- One cycle of one computer.
-use Rattle.std.specs.Prelude.{ℕ, ◌+◌, ◌/◌, ◌^◌, Bool, ◌&&◌, nat_le, if◌then◌else◌, List, [], ◌∷◌, ◌++◌, filter_map, map, slice_index_or, Option, Some, None, is_none, unwrap_or, ℤ, pos, unsigned_abs}
+use Rattle.std.specs.Prelude.{ℕ, ◌+◌, ◌/◌, ◌^◌, Bool, List, [], ◌∷◌, ◌++◌, filter_map, map, slice_index_or, Option, is_none, unwrap_or, ℤ, pos, unsigned_abs}
 use Rattle.std.specs.Option.{option_map}
 use Rattle.dp_trig.specs.SinePair.{pair_of}
 use Rattle.dp_plant.specs.Cases.{box_of, case_of}
@@ -126,19 +126,6 @@ limited_in p at s h = limited_by p at h.lost (pair_in s h) (push_by p h.gust) s.
 abbrev pub whole_demand : PlaneStep → YawStep → List ℤ
 whole_demand plane yaw = entry plane.demand 0 ∷ entry plane.demand 1 ∷ yaw.demand ∷ []
 
-abbrev pub is_near : ℤ → Bool
-is_near x = nat_le (unsigned_abs x) (2 ^ 56)
-
-abbrev pub is_place_near : Place → Bool
-is_place_near p = is_near p.north && is_near p.east
-
--- each coordinate of the plane and of yaw is within 2^56 of zero
-unfoldable pub is_within : PlaneState → YawState → Bool
-is_within x yaw =
-    ((is_place_near x.eta && is_place_near x.beta)
-    && (is_place_near x.vel && is_place_near x.wave_p))
-    && (is_place_near x.wave_q && (is_near yaw.psi && (is_near yaw.beta && is_near yaw.rate)))
-
 -- ---- the step
 -- the demands of the last 60 cycles, this one's the newest
 abbrev pub demands_with : State → List ℤ → List (List ℤ)
@@ -196,16 +183,14 @@ step_by p at s f h demand plane yaw = record {
   next = state_in p s f h demand plane yaw;
 }
 
--- one cycle at a setpoint; none exactly where a coordinate of the plane or of yaw leaves its range
-unfoldable pub step_at : Plant → Setpoint → State → Frame → Option Step
+-- one cycle at a setpoint
+unfoldable pub step_at : Plant → Setpoint → State → Frame → Step
 step_at p at s f =
     let h = sensed_of s f in let plane = plane_in p at s f h in let yaw = yaw_in p at s h in
-    if is_within plane.next yaw.next
-    then Some (step_by p at s f h (whole_demand plane yaw) plane.next yaw.next)
-    else None
+    step_by p at s f h (whole_demand plane yaw) plane.next yaw.next
 
 -- one cycle at the plant's own setpoint
-abbrev pub step_of : Plant → State → Frame → Option Step
+abbrev pub step_of : Plant → State → Frame → Step
 step_of p s f = step_at p p.setpoint s f
 
 -- ---- states

@@ -1,63 +1,65 @@
 //! The estimates after a cycle.
-ghost use Rattle.std.specs.Prelude.{◌≡◌, ◌≤◌, ◌<◌, ◌^◌, ◌+ℤ◌, IfSome, SomeIff, unwrap_or, unsigned_abs};
+ghost use Rattle.std.specs.Prelude.{◌≡◌, ◌≤◌, ◌<◌, ◌^◌, ◌+ℤ◌, IfSome, unwrap_or, unsigned_abs};
 ghost use Rattle.std.specs.Option.{option_map};
-ghost use Rattle.dp_plant.specs.{IsGustWithin, IsMeasuredPlace, IsPair, IsPlaneWithin, IsPush, IsSoundPlant, IsYawPush, IsYawWithin, entry, plane_next, push_of, yaw_next};
+ghost use Rattle.dp_plant.specs.{IsGustWithin, IsMeasuredPlace, IsPair, IsPush, IsSoundPlant, IsYawPush, entry, plane_next, push_of, yaw_next};
+ghost use Rattle.dp_cert.specs.{IsInCertifiedSet};
 ghost use Rattle.dp_pid.specs.{IsWindPush};
 ghost use Rattle.dp_alloc.specs.{IsDemandWithin};
-ghost use Rattle.dp_machine.specs.{AreEstimates, IsYawInRange, joined_estimates};
+ghost use Rattle.dp_machine.specs.{AreEstimates, IsAcceptedPlant, IsYawInRange, estimates_by};
 
 use crate::estimates::Estimates;
 use crate::sensed::Sensed;
+use dp_cert::Accepted;
+use dp_cert::laws::{cycle_stays_inside, inside_is_narrow};
 use dp_observer::{plane, yaw};
 use dp_plant::{Gust, Place, PlaneState, Plant, YawState};
 
-/// The plane after the cycle, where it stays in range.
+/// The plane after the cycle: it stays in the certified set.
 pub(crate) fn plane_after(
     plant: &Plant,
+    accepted: &Accepted,
     plane: PlaneState,
     place: Option<Place>,
     demand: [i64; 3],
     wind: [i64; 3],
     pair: (i64, i64),
-) -> Option<PlaneState>
+) -> PlaneState
     requires plant { IsSoundPlant plant.now }
-    requires plane { IsPlaneWithin plane }
+    requires accepted { IsAcceptedPlant plant.now accepted.now }
+    requires plane { IsInCertifiedSet plant.now.cert plane }
     requires place { IfSome place IsMeasuredPlace }
     requires demand { IsDemandWithin demand }
     requires wind { IsWindPush wind }
     requires pair { IsPair pair }
-    ensures { let next = plane_next plant.now.gains plane place (push_of demand wind) pair in
-        SomeIff result (IsPlaneWithin next) next }
+    ensures value { result ≡ plane_next plant.now.gains plane place (push_of demand wind) pair }
+    ensures inside { IsInCertifiedSet plant.now.cert result }
 {
+    cycle_stays_inside(accepted);
+    inside_is_narrow(accepted);
     let mut next = plane;
-    match plane::update(&mut next, &plant.gains, place, push_of(demand, wind), pair) {
-        Ok(()) => Some(next),
-        Err(_) => None,
-    }
+    plane::update(&mut next, &plant.gains, place, push_of(demand, wind), pair);
+    next
 }
 
-/// Yaw after the cycle, where it stays in range.
+/// Yaw after the cycle: it stays in its ranges.
 pub(crate) fn yaw_after(
     plant: &Plant,
     yaw: YawState,
     heading: Option<u32>,
     demand: [i64; 3],
     wind: [i64; 3],
-) -> Option<YawState>
+) -> YawState
     requires plant { IsSoundPlant plant.now }
     requires yaw { IsYawInRange yaw }
     requires heading { IfSome heading (λ a. a < 36000) }
     requires demand { IsDemandWithin demand }
     requires wind { IsWindPush wind }
-    ensures value { let next = yaw_next plant.now.yaw yaw heading (entry demand 2 +ℤ entry wind 2) in
-        SomeIff result (IsYawWithin next) next }
-    ensures within { IfSome result IsYawInRange }
+    ensures value { result ≡ yaw_next plant.now.yaw yaw heading (entry demand 2 +ℤ entry wind 2) }
+    ensures within { IsYawInRange result }
 {
     let mut next = yaw;
-    match yaw::update(&mut next, &plant.yaw, heading, turning_push(demand, wind)) {
-        Ok(()) => Some(next),
-        Err(_) => None,
-    }
+    yaw::update(&mut next, &plant.yaw, heading, turning_push(demand, wind));
+    next
 }
 
 /// What pushes in surge and sway: the demand and the wind together.
@@ -98,35 +100,32 @@ fn turned(demand: i64, wind: i64) -> i64
     demand + wind
 }
 
-/// The estimates after the cycle, where both stay in range.
-pub(crate) fn joined_estimates(
+/// The estimates after the cycle, by what is sensed and the next states of plane and yaw.
+pub(crate) fn estimates_after(
     plant: &Plant,
     now: &Estimates,
     sensed: Sensed,
-    plane: Option<PlaneState>,
-    yaw: Option<YawState>,
-) -> Option<Estimates>
+    plane: PlaneState,
+    yaw: YawState,
+) -> Estimates
     requires now { AreEstimates plant.now now.now }
     requires count { now.now.count < 2 ^ 20 }
     requires heading { IfSome sensed.heading (λ a. a < 36000) }
     requires gust { IfSome sensed.gust IsGustWithin }
     requires lost { sensed.lost < 2 ^ plant.now.groups }
-    requires plane { IfSome plane IsPlaneWithin }
-    requires yaw { IfSome yaw IsYawInRange }
-    ensures value { result ≡ joined_estimates now.now sensed plane yaw }
-    ensures within { IfSome result (λ x. AreEstimates plant.now x) }
+    requires plane { IsInCertifiedSet plant.now.cert plane }
+    requires yaw { IsYawInRange yaw }
+    ensures value { result ≡ estimates_by now.now sensed plane yaw }
+    ensures within { AreEstimates plant.now result }
 {
-    let (Some(plane), Some(yaw)) = (plane, yaw) else {
-        return None;
-    };
-    Some(Estimates {
+    Estimates {
         count: now.count + 1,
         plane,
         yaw,
         heading: sensed.heading.unwrap_or(now.heading),
         wind: angle_of(sensed.gust, now.wind),
         lost: sensed.lost,
-    })
+    }
 }
 
 /// The angle of the wind, or what it was where none is known.

@@ -1,31 +1,35 @@
 //! One cycle: what is demanded, and the estimates after it.
-ghost use Rattle.std.specs.Prelude.{◌≡◌, ◌<◌, ◌^◌, IfSome, SomeIff, Option, ℕ};
+ghost use Rattle.std.specs.Prelude.{◌≡◌, ◌<◌, ◌^◌, IfSome, Option, ℕ};
 ghost use Rattle.dp_plant.specs.declared.place.Place.{Place};
-ghost use Rattle.dp_plant.specs.{IsGustWithin, IsInBox, IsMeasuredPlace, IsPair, IsPlaneWithin, IsSetpointWithin, IsSoundPlant, IsYawWithin, box_of, case_of};
+ghost use Rattle.dp_plant.specs.{IsGustWithin, IsInBox, IsMeasuredPlace, IsPair, IsPlaneWithin, IsSetpointWithin, IsSoundPlant, box_of, case_of};
 ghost use Rattle.dp_alloc.specs.{IsDemandWithin, cases_of};
 ghost use Rattle.dp_pid.specs.{IsWindPush};
+ghost use Rattle.dp_machine.specs.Accepted.{IsAcceptedPlant};
 ghost use Rattle.dp_machine.specs.Parts.{AreEstimates, estimates_by, limited_cycle, plane_cycle, yaw_cycle};
 ghost use Rattle.dp_machine.specs.Step.{limited_by, plane_by, push_by, whole_demand, yaw_by};
 
-use crate::advance::{joined_estimates, plane_after, yaw_after};
+use crate::advance::{estimates_after, plane_after, yaw_after};
 use crate::estimates::Estimates;
 use crate::sensed::Sensed;
 use dp_alloc::Cases;
+use dp_cert::Accepted;
+use dp_cert::laws::inside_is_narrow;
 use dp_pid::{Asked, issue, wind_push};
 use dp_plant::{Gust, Place, Plant, Setpoint};
 
-/// What a cycle demands of surge, sway and yaw, which of them its box limits, and the estimates after it, where they stay in range.
+/// What a cycle demands of surge, sway and yaw, which of them its box limits, and the estimates after it.
 #[derive(Clone, Copy, Debug, PartialEq, Eq)]
 pub(crate) struct Cycle {
     pub demand: [i64; 3],
     pub limited: [bool; 3],
-    pub next: Option<Estimates>,
+    pub next: Estimates,
 }
 
 impl Cycle {
     /// The cycle at a setpoint, by what is sensed, the sine pair of the heading, and the measured place.
     pub(crate) fn of(
         plant: &Plant,
+        accepted: &Accepted,
         cases: &Cases,
         at: &Setpoint,
         now: &Estimates,
@@ -34,6 +38,7 @@ impl Cycle {
         place: Option<Place>,
     ) -> Cycle
         requires plant { IsSoundPlant plant.now }
+        requires accepted { IsAcceptedPlant plant.now accepted.now }
         requires cases { cases.now ≡ cases_of plant.now }
         requires setpoint { IsSetpointWithin at.now }
         requires now { AreEstimates plant.now now.now }
@@ -47,22 +52,22 @@ impl Cycle {
             (plane_cycle plant.now at.now now.now sensed pair place)
             (yaw_cycle plant.now at.now now.now sensed) }
         ensures limited { result.limited ≡ limited_cycle plant.now at.now now.now sensed pair }
-        ensures next { let plane = (plane_cycle plant.now at.now now.now sensed pair place).next in
-            let yaw = (yaw_cycle plant.now at.now now.now sensed).next in
-            SomeIff result.next (IsPlaneWithin plane × IsYawWithin yaw)
-            (estimates_by now.now sensed plane yaw) }
+        ensures next { result.next ≡ estimates_by now.now sensed
+            (plane_cycle plant.now at.now now.now sensed pair place).next
+            (yaw_cycle plant.now at.now now.now sensed).next }
         ensures in_box { IsInBox (box_of (case_of plant.now sensed.lost)) result.demand }
         ensures whole { IsDemandWithin result.demand }
-        ensures within { IfSome result.next (λ x. AreEstimates plant.now x) }
+        ensures within { AreEstimates plant.now result.next }
     {
+        inside_is_narrow(accepted);
         let wind = push_by(plant, sensed.gust);
         let Asked { a: demand, limited } = asked_of(plant, cases, at, now, sensed.lost, pair, wind);
-        let plane = plane_after(plant, now.plane, place, demand, wind, pair);
+        let plane = plane_after(plant, accepted, now.plane, place, demand, wind, pair);
         let yaw = yaw_after(plant, now.yaw, sensed.heading, demand, wind);
         Cycle {
             demand,
             limited,
-            next: joined_estimates(plant, now, sensed, plane, yaw),
+            next: estimates_after(plant, now, sensed, plane, yaw),
         }
     }
 }
@@ -96,6 +101,7 @@ fn asked_of(
     requires cases { cases.now ≡ cases_of plant.now }
     requires setpoint { IsSetpointWithin at.now }
     requires now { AreEstimates plant.now now.now }
+    requires plane { IsPlaneWithin now.now.plane }
     requires pair { IsPair pair }
     requires wind { IsWindPush wind }
     ensures demand { (y : Option Place) (h : Option ℕ) → result.a ≡ whole_demand

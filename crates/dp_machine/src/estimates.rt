@@ -3,6 +3,8 @@ ghost use Rattle.std.specs.Prelude.{◌≡◌, ◌<◌, ◌/◌, ◌^◌, pos, �
 ghost use Rattle.dp_plant.specs.{turn};
 
 use crate::State;
+use dp_cert::Accepted;
+use dp_cert::laws::rest_is_inside;
 use dp_plant::{PlaneState, Plant, YawState};
 
 /// What a state holds beside its lists.
@@ -19,16 +21,19 @@ pub(crate) struct Estimates {
 impl Estimates {
     ghost use Rattle.std.specs.Prelude.{◌≡◌};
     ghost use Rattle.dp_plant.specs.{IsSoundPlant};
+    ghost use Rattle.dp_machine.specs.Accepted.{IsAcceptedPlant};
     ghost use Rattle.dp_machine.specs.Parts.{AreEstimates, estimates_of};
     ghost use Rattle.dp_machine.specs.Step.{first_state};
 
     /// Those of the plant's first state.
     #[tactic(auto, unfolding(crate::specs::Step::first_state))]
-    pub(crate) fn first(plant: &Plant) -> Estimates
-        requires { IsSoundPlant plant.now }
+    pub(crate) fn first(plant: &Plant, accepted: &Accepted) -> Estimates
+        requires plant { IsSoundPlant plant.now }
+        requires accepted { IsAcceptedPlant plant.now accepted.now }
         ensures value { result ≡ estimates_of (first_state plant.now) }
         ensures within { AreEstimates plant.now result }
     {
+        rest_is_inside(accepted);
         Estimates {
             count: 0,
             plane: PlaneState::rest(plant.start.at),

@@ -19,8 +19,9 @@
 //! mask and `specs/Alarms` the bits of the wires; `specs/Run` folds the cycle over frames, `specs/Reference` is one computer alone over a
 //! whole record. A machine is seen as the record `MachineValue`: its plant, its [`State`], and how often it was stepped. `step` is exactly
 //! `step_of`; [`Machine::state`] shows all of the state, after [`Machine::set`] the machine has the given one, and [`Machine::skew`] sets
-//! the plane alone. The state stays in the ranges of `specs/Ranges`, whatever the frames bring; where an estimate of the plane would leave
-//! ±2^56 a step answers `Diverged`. No call but [`Machine::new`] takes memory, and none copies a machine.
+//! the plane alone. The state stays in the ranges of `specs/Ranges`, whatever the frames bring: the plane in the certified set of the
+//! accepted gains, so that none of its coordinates leaves ±2^56, and yaw in ranges that its gains keep. No call but [`Machine::new`] takes
+//! memory, and none copies a machine.
 //!
 //! Places are nanometres in the local frame, headings in a state nanodegrees and in a frame hundredths of a degree, speeds of the wind
 //! mm/s, demands nanometres (for yaw nanodegrees) per cycle squared. The loop is that of Fossen's Handbook of Marine Craft Hydrodynamics

@@ -1,6 +1,7 @@
 //! One computer's machine: its plant and its state.
-ghost use Rattle.std.specs.Prelude.{◌≡◌, ◌∷◌, [], ◌^◌, IfOk, OnErr, Some, None};
+ghost use Rattle.std.specs.Prelude.{◌≡◌, ◌↔◌, ◌∷◌, [], ◌^◌, IfOk, IsTrue};
 ghost use Rattle.dp_plant.specs.{IsFrameInRange, IsSetpointWithin, IsVectorWithin};
+ghost use Rattle.dp_cert.specs.{InsideIsWithin, IsInside};
 ghost use Rattle.dp_machine.specs.Accepted.{IsAcceptedPlant};
 ghost use Rattle.dp_machine.specs.Machine.{first_machine, one_more, with_rest, with_state};
 ghost use Rattle.dp_machine.specs.Ranges.{IsStateWithin};
@@ -15,7 +16,7 @@ use crate::{Issue, State, demands};
 use circular_buffer::HeapCircularBuffer;
 use dp_alloc::Cases;
 use dp_cert::Accepted;
-use dp_observer::Diverged;
+use dp_cert::laws::{inside_is_narrow, rest_is_inside};
 use dp_plant::{Frame, Memory, Place, PlaneState, Plant, Setpoint};
 use dp_trig::Trig;
 use std::alloc::Global;
@@ -25,6 +26,7 @@ use std::marker::Model;
 #[derive(Drop)]
 pub struct Machine {
     plant: Plant,
+    accepted: Accepted,
     cases: Cases,
     trig: Trig,
     estimates: Estimates,
@@ -60,9 +62,10 @@ impl Machine {
         let trig = Trig::new();
         Ok(Machine {
             plant: plant.copy(),
+            accepted: accepted.copy(),
             cases: Cases::of(alloc, plant, &trig)?,
             trig,
-            estimates: Estimates::first(plant),
+            estimates: Estimates::first(plant, accepted),
             references: References::new(alloc, &plant.refs)?,
             demands: demands::ring(alloc)?,
             steps: 0,
@@ -77,13 +80,12 @@ impl Machine {
     }
 
     /// Takes one cycle at the plant's own setpoint: the frame of the next cycle. What is issued rests on the estimates before it, and on
-    /// this frame's heading, wind, places and groups. After `Diverged` nothing is promised of the state but what `set` asks for.
-    pub fn step(&mut self, f: &Frame) -> Result<Issue, Diverged>
+    /// this frame's heading, wind, places and groups.
+    pub fn step(&mut self, f: &Frame) -> Issue
         requires within { IsFrameInRange self.old.plant.groups f.now }
         requires next { f.now.cycle ≡ self.old.state.count }
-        ensures issued { IfOk result (λ issue. step_of self.old.plant self.old.state f.now
-            ≡ Some (record { issue = issue; next = self.new.state })) }
-        ensures diverged { OnErr result (step_of self.old.plant self.old.state f.now ≡ None) }
+        ensures issued { step_of self.old.plant self.old.state f.now
+            ≡ record { issue = result; next = self.new.state } }
         ensures plant { self.new.plant ≡ self.old.plant }
         ensures steps { self.new.steps ≡ one_more self.old.steps }
     {
@@ -92,14 +94,12 @@ impl Machine {
     }
 
     /// Takes one cycle at a setpoint.
-    pub fn step_to(&mut self, f: &Frame, at: &Setpoint) -> Result<Issue, Diverged>
+    pub fn step_to(&mut self, f: &Frame, at: &Setpoint) -> Issue
         requires within { IsFrameInRange self.old.plant.groups f.now }
         requires next { f.now.cycle ≡ self.old.state.count }
         requires setpoint { IsSetpointWithin at.now }
-        ensures issued { IfOk result (λ issue. step_at self.old.plant at.now self.old.state f.now
-            ≡ Some (record { issue = issue; next = self.new.state })) }
-        ensures diverged { OnErr result
-            (step_at self.old.plant at.now self.old.state f.now ≡ None) }
+        ensures issued { step_at self.old.plant at.now self.old.state f.now
+            ≡ record { issue = result; next = self.new.state } }
         ensures plant { self.new.plant ≡ self.old.plant }
         ensures steps { self.new.steps ≡ one_more self.old.steps }
     {
@@ -112,6 +112,7 @@ impl Machine {
         let place = measured_by(&self.plant, pair, &verdicts);
         let cycle = Cycle::of(
             &self.plant,
+            &self.accepted,
             &self.cases,
             at,
             &self.estimates,
@@ -137,12 +138,8 @@ impl Machine {
             ),
         };
         self.steps = self.steps.saturating_add(1);
-        let Some(next) = cycle.next else {
-            self.estimates.count += 1;
-            return Err(Diverged);
-        };
-        self.estimates = next;
-        Ok(issue)
+        self.estimates = cycle.next;
+        issue
     }
 
     /// Takes the vessel to be at rest at a place within ±2^43 nm, with no bias and no motion by waves. All else stays.
@@ -150,6 +147,7 @@ impl Machine {
         requires { IsVectorWithin (2 ^ 43) at }
         ensures { self.new ≡ with_rest self.old at }
     {
+        rest_is_inside(&self.accepted);
         self.estimates.plane = PlaneState::rest(at);
     }
 
@@ -180,6 +178,21 @@ impl Machine {
         demands::fill(&mut self.demands, s.demands.as_slice());
     }
 
+    /// Whether a plane state is in the certified set of the accepted gains, which no cycle leaves ([`Accepted::inside`]). It may be asked of
+    /// any state; without a wave filter the wave states aren't looked at.
+    pub fn inside(&self, x: &PlaneState) -> bool
+        ensures { IsTrue result ↔ IsInside self.now.plant.cert x.now }
+    {
+        self.accepted.inside(x)
+    }
+
+    /// In the certified set each coordinate is within ±2^56: a law, and the call does nothing.
+    pub fn inside_is_within(&self)
+        ensures { InsideIsWithin self.now.plant.cert }
+    {
+        inside_is_narrow(&self.accepted);
+    }
+
     /// The lengths of the references' windows.
     pub fn windows(&self) -> [u8; 3]
         ensures { let p = self.now.plant in result
@@ -189,6 +202,13 @@ impl Machine {
         [first.window, second.window, third.window]
     }
 
+    /// The version of the plant: 1 without a wave filter, 2 with one.
+    pub fn version(&self) -> u8
+        ensures { result ≡ self.now.plant.version }
+    {
+        self.plant.version
+    }
+
     /// The number of the plant's groups of thrusters.
     pub fn groups(&self) -> u8
         ensures { result ≡ self.now.plant.groups }
@@ -196,7 +216,7 @@ impl Machine {
         self.plant.groups
     }
 
-    /// The number of frames that this machine was stepped over since it was made, up to 2^64 - 1, one that diverged included.
+    /// The number of frames that this machine was stepped over since it was made, up to 2^64 - 1.
     pub fn steps(&self) -> u64
         ensures { result ≡ self.now.steps }
     {

@@ -95,6 +95,12 @@ cut_kept whole k first rest r is less =
 few_is : (decimals : List ℕ) → length decimals ≤ 7 → take 7 decimals ≡ decimals
 few_is decimals few = take_all 7 decimals few
 
+one_time : (n : ℕ) → n * 1 ≡ n
+one_time n = omega arith
+
+times_one : (n : ℕ) → n * 10 ^ (7 - 7) ≡ n
+times_one n = one_time n
+
 -- the decimals that are kept are what all of them come to
 pub kept_comes : (whole : ℕ) (decimals : List ℕ) → length decimals ≤ 18 → list_all is_ascii_digit decimals ≡ true
     → ComesTo whole (length decimals) (place_value decimals) (whole * 10 ^ 7 + kept 7 decimals)
@@ -130,12 +136,6 @@ kept_comes whole decimals few all = elim (cases_lt 7 (length decimals)) [ inl mo
         let comes = cut_kept whole (length decimals) (place_value first) (place_value rest) (10 ^ length rest) power (value-bound rest b.1) in
         subst (ComesTo whole (length decimals) (place_value decimals)) (sym (ap (λ n. whole * 10 ^ 7 + n) is))
         (subst (λ v. ComesTo whole (length decimals) v (whole * 10 ^ 7 + place_value first)) (sym value) comes)
-
-    one_time : (n : ℕ) → n * 1 ≡ n
-    one_time n = omega arith
-
-    times_one : (n : ℕ) → n * 10 ^ (7 - 7) ≡ n
-    times_one n = one_time n
 
 -- there is one number that they come to
 one_part : (f g p x : ℕ) → f * p ≤ x → x < (g + 1) * p → f ≤ g

@@ -1,22 +1,21 @@
 //! One component of the plane, a cycle later.
-ghost use Rattle.std.specs.Prelude.{◌≡◌, ◌≤◌, ◌^◌, ◌+ℤ◌, ◌-ℤ◌, ◌*ℤ◌, unsigned_abs, SomeIff};
+ghost use Rattle.std.specs.Prelude.{◌≡◌, ◌≤◌, ◌^◌, ◌+ℤ◌, ◌-ℤ◌, ◌*ℤ◌, unsigned_abs};
 ghost use Rattle.dp_fixed.specs.{floor_of, full_scale};
 ghost use Rattle.dp_plant.specs.declared.plane.Component.{Component};
 ghost use Rattle.dp_plant.specs.{IsComponentWithin, IsObserverGains, component_next};
 
-use crate::limit::coordinate;
 use crate::motion::{bias_next, place_next, velocity_next};
-use dp_fixed::{Q, difference, floor_div, product, sum};
+use dp_fixed::{Q, difference, floor_div, narrow, product, sum};
 use dp_plant::{Component, Gains};
 
-/// One component a cycle later, where it stays within the limit.
-pub(crate) fn component(gains: &Gains, x: Component, y: i64, push: i128) -> Option<Component>
+/// One component a cycle later.
+pub(crate) fn component(gains: &Gains, x: Component, y: i64, push: i128) -> Component
     requires gains { IsObserverGains gains.now }
     requires state { IsComponentWithin x }
     requires place { unsigned_abs y ≤ 2 ^ 44 }
     requires push { unsigned_abs push ≤ 2 ^ 92 }
-    ensures { let later = component_next gains.now x y push in SomeIff result
-        (IsComponentWithin later) later }
+    requires next { IsComponentWithin (component_next gains.now x y push) }
+    ensures { result ≡ component_next gains.now x y push }
 {
     let off = offset(x, y);
     let eta = place_next(gains.k2, x.eta, x.vel, off);
@@ -25,7 +24,7 @@ pub(crate) fn component(gains: &Gains, x: Component, y: i64, push: i128) -> Opti
     let wave = gains.wave;
     let wave_p = wave_next(wave[0], wave[1], gains.k1[0], x.wave_p, x.wave_q, off);
     let wave_q = wave_next(wave[2], wave[3], gains.k1[1], x.wave_p, x.wave_q, off);
-    within(eta, beta, vel, wave_p, wave_q)
+    narrowed(eta, beta, vel, wave_p, wave_q)
 }
 
 /// How far the measured place is from the estimate, the motion by waves taken off.
@@ -54,17 +53,19 @@ fn wave_next(by_p: i64, by_q: i64, by_place: i64, p: i64, q: i64, off: i128) -> 
     floor_div(whole, Q)
 }
 
-/// These numbers, where each is within the limit.
-fn within(eta: i128, beta: i128, vel: i128, wave_p: i128, wave_q: i128) -> Option<Component>
-    ensures { let x : Component = record
+/// A component of these numbers.
+fn narrowed(eta: i128, beta: i128, vel: i128, wave_p: i128, wave_q: i128) -> Component
+    requires { let x : Component = record
         { eta = eta; beta = beta; vel = vel; wave_p = wave_p; wave_q = wave_q }
-        in SomeIff result (IsComponentWithin x) x }
+        in IsComponentWithin x }
+    ensures { result ≡ record
+        { eta = eta; beta = beta; vel = vel; wave_p = wave_p; wave_q = wave_q } }
 {
-    Some(Component {
-        eta: coordinate(eta)?,
-        beta: coordinate(beta)?,
-        vel: coordinate(vel)?,
-        wave_p: coordinate(wave_p)?,
-        wave_q: coordinate(wave_q)?,
-    })
+    Component {
+        eta: narrow(eta),
+        beta: narrow(beta),
+        vel: narrow(vel),
+        wave_p: narrow(wave_p),
+        wave_q: narrow(wave_q),
+    }
 }

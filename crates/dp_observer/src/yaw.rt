@@ -1,57 +1,48 @@
 //! One cycle of the observer of yaw.
-ghost use Rattle.std.specs.Prelude.{◌≡◌, ◌≤◌, ◌<◌, ◌^◌, ◌*◌, ◌↔◌, pos, ◌-ℤ◌, ◌*ℤ◌, unsigned_abs, IsOk, OnOk, OnErr, IfSome, Some, SomeIff};
+ghost use Rattle.std.specs.Prelude.{◌≡◌, ◌≤◌, ◌<◌, ◌^◌, ◌*◌, pos, ◌-ℤ◌, ◌*ℤ◌, unsigned_abs, IfSome, Some};
 ghost use Rattle.std.specs.Int.{int_rem_euclid};
 ghost use Rattle.dp_fixed.specs.{full_scale, wrap_of};
 ghost use Rattle.dp_plant.specs.declared.yaw.YawState.{YawState};
 ghost use Rattle.dp_plant.specs.{IsMeasuredHeading, IsYawGains, IsYawPush, IsYawWithin, turn, yaw_next};
 
-use crate::Diverged;
-use crate::limit::coordinate;
 use crate::motion::{bias_next, place_next, velocity_next};
-use dp_fixed::{difference, product, wrap};
+use dp_fixed::{difference, narrow, product, wrap};
 use dp_plant::{YawGains, YawState};
 
 /// 360 degrees in nanodegrees.
 const TURN: i128 = 360_000_000_000;
 
 /// Takes one cycle: the measured heading in hundredths of a degree, if there is one, and what pushes in yaw, the demand and the wind
-/// together, in nanodegrees per cycle squared, positive clockwise. Where a coordinate would leave the limit, the state stays as it is.
-pub fn update(x: &mut YawState, gains: &YawGains, h: Option<u32>, push: i64) -> Result<(), Diverged>
+/// together, in nanodegrees per cycle squared, positive clockwise. Each number of the next state has to lie within ±2^56.
+pub fn update(x: &mut YawState, gains: &YawGains, h: Option<u32>, push: i64)
     requires gains { IsYawGains gains.now }
     requires state { IsYawWithin x.old }
     requires heading { IfSome h (λ n. IsMeasuredHeading n) }
     requires push { IsYawPush push }
-    ensures ok { OnOk result (x.new ≡ yaw_next gains.now x.old h push) }
-    ensures err { OnErr result (x.new ≡ x.old) }
-    ensures diverged { IsOk result ↔ IsYawWithin (yaw_next gains.now x.old h push) }
+    requires next { IsYawWithin (yaw_next gains.now x.old h push) }
+    ensures { x.new ≡ yaw_next gains.now x.old h push }
 {
     let Some(heading) = h else {
-        return Ok(());
+        return;
     };
-    match next(x, gains, heading, push) {
-        Some(later) => {
-            *x = later;
-            Ok(())
-        }
-        None => Err(Diverged),
-    }
+    *x = next(x, gains, heading, push);
 }
 
-/// A cycle later, where each coordinate stays within the limit.
+/// A cycle later, by the measured heading.
 #[tactic(auto, using(crate::proofs::YawShares::shares))]
-fn next(x: &YawState, gains: &YawGains, h: u32, push: i64) -> Option<YawState>
+fn next(x: &YawState, gains: &YawGains, h: u32, push: i64) -> YawState
     requires gains { IsYawGains gains.now }
     requires state { IsYawWithin x.now }
     requires heading { IsMeasuredHeading h }
     requires push { IsYawPush push }
-    ensures { let later = yaw_next gains.now x.now (Some h) push in
-        SomeIff result (IsYawWithin later) later }
+    requires next { IsYawWithin (yaw_next gains.now x.now (Some h) push) }
+    ensures { result ≡ yaw_next gains.now x.now (Some h) push }
 {
     let off = offset(x, h);
     let psi = turned(place_next(gains.k2, x.psi, x.rate, off));
     let beta = bias_next(gains.leak, gains.k3, x.beta, off);
     let rate = velocity_next(gains.damp, gains.k4, x.beta, x.rate, scaled_push(push), off);
-    within(psi, beta, rate)
+    narrowed(psi, beta, rate)
 }
 
 /// How far the measured heading is from the estimate, the nearer way round.
@@ -74,10 +65,8 @@ fn nanodegrees(h: u32) -> i128
 }
 
 /// A heading, brought to the turn from 0 on.
-#[tactic(auto, using(crate::proofs::Turns::rest_of_turns))]
 fn turned(psi: i128) -> i128
-    ensures value { result ≡ int_rem_euclid psi turn }
-    ensures bound { unsigned_abs result ≤ 2 ^ 56 }
+    ensures { result ≡ int_rem_euclid psi turn }
 {
     psi.rem_euclid(TURN)
 }
@@ -91,14 +80,14 @@ fn scaled_push(push: i64) -> i128
     product(1 << 30, push as i128)
 }
 
-/// These numbers, where each is within the limit.
-fn within(psi: i128, beta: i128, rate: i128) -> Option<YawState>
-    ensures { let x : YawState = record { psi = psi; beta = beta; rate = rate } in
-        SomeIff result (IsYawWithin x) x }
+/// A state of these numbers.
+fn narrowed(psi: i128, beta: i128, rate: i128) -> YawState
+    requires { let x : YawState = record { psi = psi; beta = beta; rate = rate } in IsYawWithin x }
+    ensures { result ≡ record { psi = psi; beta = beta; rate = rate } }
 {
-    Some(YawState {
-        psi: coordinate(psi)?,
-        beta: coordinate(beta)?,
-        rate: coordinate(rate)?,
-    })
+    YawState {
+        psi: narrow(psi),
+        beta: narrow(beta),
+        rate: narrow(rate),
+    }
 }

@@ -1,16 +1,16 @@
-//! Cycles of the sample plant S1. The expected values come from a separate program.
+//! Cycles of the sample plants. The expected values come from a separate program.
 ghost use Rattle.std.specs.Prelude.{◌≡◌, ◌<◌, ◌^◌, IfSome};
 ghost use Rattle.dp_plant.specs.{IsFrameInRange, IsGustWithin, IsVectorWithin};
 
 use crate::samples::{accepted, heard, plant_with};
 use dp_machine::{Alarms, Cause, Issue, Machine};
-use dp_plant::samples::S1;
-use dp_plant::{Frame, Gust, Place, Slot};
+use dp_plant::samples::{S1, S2};
+use dp_plant::{Frame, Gust, Place, PlaneState, Slot};
 use std::alloc::Global;
 use std::process::Abort;
 
-fn machine(rt: &impl Abort, alloc: Global) -> Machine {
-    let plant = plant_with(rt, alloc, S1);
+fn machine(rt: &impl Abort, alloc: Global, lines: &[&str]) -> Machine {
+    let plant = plant_with(rt, alloc, lines);
     Machine::new(alloc, &plant, &accepted(rt, &plant)).expect(rt, "memory")
 }
 
@@ -85,33 +85,61 @@ fn step(rt: &impl Abort, machine: &mut Machine, coming: Coming) -> Issue
 {
     let n = machine.count();
     assert!(rt; n < 1000 && machine.groups() == 2);
-    machine
-        .step(&frame(n, coming))
-        .expect(rt, "estimates in range")
+    machine.step(&frame(n, coming))
 }
 
-/// Three cycles: the demand, the force of the first thruster, and the estimate after them.
-#[test]
-fn comes_back_from_a_metre_north(rt: HostRuntime) {
-    let mut machine = machine(&rt, rt.alloc());
+/// Cycles with a place a metre north: the demand on surge, the force of the first two thrusters, and the plane's numbers in north after
+/// it, those of the wave filter last.
+fn come_back(rt: &impl Abort, mut machine: Machine, rows: [(i64, i64, [i64; 5]); 3]) {
     let coming = Coming {
         place: NORTH,
         ..NOTHING
     };
-    let rows = [
-        (0, 0, [62_500_000, 19_531, 1_562_500]),
-        (-68_360, -171, [122_656_250, 37_817, 2_976_561]),
-        (-131_397, -329, [180_466_795, 54_905, 4_250_110]),
-    ];
     for (surge, force, north) in rows {
-        let issue = step(&rt, &mut machine, coming);
+        let issue = step(rt, &mut machine, coming);
         assert_eq!(rt; issue.demand, [surge, 0, 0]);
         assert!(rt; issue.forces.as_slice() == [force, force, 0, 0, 0, 0].as_slice());
-        let plane = machine.state().plane;
-        assert_eq!(rt; [plane.eta.north, plane.beta.north, plane.vel.north], north);
+        assert_eq!(rt; north_of(&machine.state().plane), north);
     }
     assert_eq!(rt; machine.count(), 3);
     assert_eq!(rt; machine.steps(), 3);
+}
+
+fn north_of(x: &PlaneState) -> [i64; 5] {
+    let north = x.north();
+    [north.eta, north.beta, north.vel, north.wave_p, north.wave_q]
+}
+
+#[test]
+fn comes_back_from_a_metre_north(rt: HostRuntime) {
+    let machine = machine(&rt, rt.alloc(), S1);
+    assert_eq!(rt; machine.version(), 1);
+    let rows = [
+        (0, 0, [62_500_000, 19_531, 1_562_500, 0, 0]),
+        (-68_360, -171, [122_656_250, 37_817, 2_976_561, 0, 0]),
+        (-131_397, -329, [180_466_795, 54_905, 4_250_110, 0, 0]),
+    ];
+    come_back(&rt, machine, rows);
+}
+
+#[test]
+fn comes_back_with_a_wave_filter(rt: HostRuntime) {
+    let machine = machine(&rt, rt.alloc(), S2);
+    assert_eq!(rt; machine.version(), 2);
+    let rows = [
+        (0, 0, [62_500_000, 19_531, 1_562_500, 0, 3_906_250]),
+        (
+            -68_360,
+            -171,
+            [122_412_109, 37_741, 2_970_458, 0, 5_599_975],
+        ),
+        (
+            -131_130,
+            -328,
+            [179_881_811, 54_725, 4_235_837, 0, 6_206_190],
+        ),
+    ];
+    come_back(&rt, machine, rows);
 }
 
 /// Of two groups one and both are lost, and one is ready again: the forces of the first two thrusters, one of each group, whether there
@@ -132,7 +160,7 @@ fn goes_on_with_the_groups_that_are_ready(rt: HostRuntime) {
         ],
     ];
     for rows in runs {
-        let mut machine = machine(&rt, rt.alloc());
+        let mut machine = machine(&rt, rt.alloc(), S1);
         for (first, second, forces, nocase, unsurvived) in rows {
             let coming = Coming {
                 place: NORTH,
@@ -152,7 +180,7 @@ fn goes_on_with_the_groups_that_are_ready(rt: HostRuntime) {
 /// A wind from ahead and starboard is met in the same cycle, also where nothing else is heard.
 #[test]
 fn meets_the_wind(rt: HostRuntime) {
-    let mut machine = machine(&rt, rt.alloc());
+    let mut machine = machine(&rt, rt.alloc(), S1);
     let coming = Coming {
         gust: Some(Gust {
             angle: 4500,
@@ -176,4 +204,22 @@ fn meets_the_wind(rt: HostRuntime) {
         }
     );
     assert_eq!(rt; machine.state().wind, 4500);
+}
+
+/// At rest at 2^43 nm on both axes the plane is in the certified set of each sample plant, at 2^56 nm on north it isn't.
+#[test]
+fn knows_the_certified_set(rt: HostRuntime) {
+    for lines in [S1, S2] {
+        let machine = machine(&rt, rt.alloc(), lines);
+        let near = Place {
+            north: 1 << 43,
+            east: 1 << 43,
+        };
+        let far = Place {
+            north: 1 << 56,
+            east: 0,
+        };
+        assert!(rt; machine.inside(&PlaneState::rest(near)));
+        assert!(rt; !machine.inside(&PlaneState::rest(far)));
+    }
 }

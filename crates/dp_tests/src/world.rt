@@ -98,7 +98,6 @@ fn is_seen(rt: &impl Abort, seen: &Seen, wanted: &str) -> bool {
         Seen::Ran(Ran::Idle) => a == "idle",
         Seen::Ran(Ran::Aligning) => a == "aligning",
         Seen::Ran(Ran::Off) => a == "off",
-        Seen::Ran(Ran::Halted) => a == "halted",
         Seen::Sent(None) => a == "unsent",
         Seen::Sent(Some(took)) => is_took(rt, *took, wanted),
         Seen::Voted(ballot) => is_ballot(rt, *ballot, wanted),
