@@ -11,6 +11,8 @@ pub mod Votes
 pub mod PlayedFrames
 pub mod Blocks
 pub mod FreshForces
+pub mod BoundedForces
+pub mod AcceptedTasks
 pub mod Playing
 pub mod Showing
 pub mod Tallies

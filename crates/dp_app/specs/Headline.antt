@@ -1,11 +1,14 @@
 -- The headline: what is told of each cycle's forces.
-use Rattle.std.specs.Prelude.{◌≡◌, ◌+◌, ℕ, ℤ, List, [], take, Some, Result, Ok, Err, slice_get}
+use Rattle.std.specs.Prelude.{◌≡◌, ◌+◌, ℕ, ℤ, pos, ◌≤ℤ◌, List, [], take, Some, Result, Ok, Err, slice_get}
 use Rattle.dp_plant.specs.declared.frames.Frame.{Frame}
 use Rattle.dp_plant.specs.declared.plant.Plant.{Plant}
 use Rattle.dp_plant.specs.declared.voting.Ballot.TheVariants.{Fresh}
 use Rattle.dp_core.specs.Faulty.{AtMostOneFaulty}
 use Rattle.dp_core.specs.History.{history}
+use Rattle.dp_cert.specs.declared.accepted.Accepted.{Accepted}
+use Rattle.dp_machine.specs.Accepted.{IsAcceptedPlant}
 use Rattle.dp_machine.specs.Reference.{force_of}
+use Rattle.dp_machine.specs.ReplacedReference.{AreBounded, IsReplaced, ReplacedReferenceIsBounded, case_in}
 use Rattle.dp_machine.specs.Run.{own_setpoints}
 use Rattle.dp_report.specs.declared.block.Block.{Block}
 use Rattle.dp_script.specs.declared.timed_act.TimedAct.{TimedAct}
@@ -32,3 +35,47 @@ TellsReferenceForces (Ok (to_trial x)) = FreshForcesAreReference x.plant x.scrip
 TellsReferenceForces (Ok (to_check p)) = Unit {0}
 TellsReferenceForces (Ok (to_make number)) = Unit {0}
 TellsReferenceForces (Err fault) = Unit {0}
+
+-- ---- and how far one bad position reference can move them
+-- the frames up to n are those of another record, but for what one position reference told; the
+-- other two are usable in each cycle, and within a spread
+abbrev pub IsAnother : Plant → ℕ → ℤ → ℕ → List Frame → List Frame → Type 0
+IsAnother p r spread n fs fs' = IsReplaced p (own_setpoints p) r spread (take (n + 1) fs) fs'
+
+-- a force of thruster k in cycle n is within the bound of the other record's reference run, by the
+-- thruster's row of shares in the cycle's case
+abbrev pub IsForceBounded : Plant → ℤ → ℕ → ℕ → List Frame → List Frame → ℤ → Type 0
+IsForceBounded p spread n k fs fs' f =
+    (f' : ℤ) × (force_of p (own_setpoints p) fs' n k ≡ Some f')
+    × AreBounded p.cert spread (case_in p (own_setpoints p) (take (n + 1) fs) n) k f f'
+
+-- each fresh force in the block of cycle n is within the bound of every such record, where at most
+-- one computer is faulty in any cycle up to n
+abbrev pub FreshForcesAreBounded : Plant → List TimedAct → List Frame → List Block → Type 0
+FreshForcesAreBounded p script fs bs = (n k : ℕ) (b : Block) (f : ℤ)
+    → AtMostOneFaulty (history p (play_events p script (take (n + 1) fs) []))
+    → slice_get bs n ≡ Some b → slice_get b.ballots.items k ≡ Some (Fresh f)
+    → (r : ℕ) (spread : ℤ) → pos 0 ≤ℤ spread → (fs' : List Frame) → IsAnother p r spread n fs fs'
+    → IsForceBounded p spread n k fs fs' f
+
+-- of what is played, if anything is; of a check, that its plant's bounds hold for all records
+abbrev pub TellsBoundedForces : Result Task Fault → Type 0
+TellsBoundedForces (Ok (to_replay x)) = FreshForcesAreBounded x.plant x.script x.frames
+    (blocks x.plant x.script x.frames [])
+TellsBoundedForces (Ok (to_trial x)) = FreshForcesAreBounded x.plant x.script x.frames
+    (blocks x.plant x.script x.frames [])
+TellsBoundedForces (Ok (to_check p)) = ReplacedReferenceIsBounded p
+TellsBoundedForces (Ok (to_make number)) = Unit {0}
+TellsBoundedForces (Err fault) = Unit {0}
+
+-- a plant's gains and cases were accepted
+abbrev pub WasAccepted : Plant → Type 0
+WasAccepted p = (a : Accepted) × IsAcceptedPlant p a
+
+-- so were those of the plant that is asked for, if one is
+abbrev pub IsOnAcceptedPlant : Result Task Fault → Type 0
+IsOnAcceptedPlant (Ok (to_replay x)) = WasAccepted x.plant
+IsOnAcceptedPlant (Ok (to_trial x)) = WasAccepted x.plant
+IsOnAcceptedPlant (Ok (to_check p)) = WasAccepted p
+IsOnAcceptedPlant (Ok (to_make number)) = Unit {0}
+IsOnAcceptedPlant (Err fault) = Unit {0}

@@ -36,7 +36,7 @@ pub use Rattle.dp_app.specs.Playing.{HasPlayed, IsPlaying, Shows, StopsShowing}
 pub use Rattle.dp_app.specs.Outcome.{Asks, IsOfInputs, IsOfRecord, Play, Task, blocks_in, outcome_of, last_line, last_status, play_of, play_outcome, record_fault, script_fault_of, script_of, play_made, task_on, to_check, to_make, to_replay, to_trial, trial_text, whole, with_script}
 pub use Rattle.dp_app.specs.Prefixes.{prefix_read}
 pub use Rattle.dp_app.specs.Streaming.{task_of_player}
-pub use Rattle.dp_app.specs.Given.{IsReady, IsScriptRefusal, LeavesRecord, PlaysScript, task_of}
+pub use Rattle.dp_app.specs.Given.{HasAcceptedPlant, IsReady, IsScriptRefusal, LeavesRecord, PlaysScript, task_of}
 pub use Rattle.dp_app.specs.Causes.{AnyRose, OthersKeep, ReadFailed, RecordFailed, RoseAt}
-pub use Rattle.dp_app.specs.Headline.{TellsReferenceForces}
+pub use Rattle.dp_app.specs.Headline.{IsOnAcceptedPlant, TellsBoundedForces, TellsReferenceForces}
 pub use Rattle.dp_app.specs.Written.{EndsAtRead, HasWritten, IsAnnounced, LineEnds, NoReadFailed}

@@ -4,7 +4,7 @@ ghost use Rattle.dp_shell.specs.{NoneFalls, OthersStay, texts_of, text_named};
 ghost use Rattle.dp_core.specs.Represents.{Represents};
 ghost use Rattle.dp_machine.specs.{IsAcceptedPlant};
 ghost use Rattle.dp_app.specs.declared.fault.File.{File as FileKind};
-ghost use Rattle.dp_app.specs.{Asks, HasPlayed, IsEmptyTally, IsOfInputs, IsReady, IsScriptRefusal, LeavesRecord, OthersKeep, PlaysScript, ReadFailed, RoseAt};
+ghost use Rattle.dp_app.specs.{Asks, HasAcceptedPlant, HasPlayed, IsEmptyTally, IsOfInputs, IsReady, IsScriptRefusal, LeavesRecord, OthersKeep, PlaysScript, ReadFailed, RoseAt};
 ghost use Rattle.dp_app.specs.{task_of, check, trial, whole, command_in, fault_status, files_of, files_read, replay};
 ghost use Rattle.dp_app.specs.{prefix_read, script_fault_of, script_of, shown_command};
 
@@ -54,6 +54,7 @@ pub fn gather<'a, F: Shelf>(
     ensures ok { IfOk result (λ t. IfSome (F.files shelf.old) (λ files.
         Asks (command_in (texts_of words.now)) files (task_of t files))) }
     ensures ready { IfOk result IsReady }
+    ensures accepted { IfOk result HasAcceptedPlant }
 
     // Of a replay the record is left to be read, after the plant and the script had passed.
     ensures left { IfOk result (LeavesRecord (F.files shelf.old)
@@ -95,6 +96,7 @@ fn gather_files<'a, F: Shelf>(
     ensures ok { IfOk result (λ t. IfSome (F.files shelf.old) (λ files.
         Asks (Some (shown_command command.now)) files (task_of t files))) }
     ensures ready { IfOk result IsReady }
+    ensures accepted { IfOk result HasAcceptedPlant }
     ensures left { IfOk result (LeavesRecord (F.files shelf.old)
         (Some (shown_command command.now))) }
     ensures err { IfErr result (λ fault. IsOfInputs (fault_status fault)
@@ -131,6 +133,7 @@ fn gather_check<'a, F: Shelf>(
     ensures ok { IfOk result (λ t. IfSome (F.files shelf.old) (λ files.
         Asks (Some (check plant_name.now)) files (task_of t files))) }
     ensures ready { IfOk result IsReady }
+    ensures accepted { IfOk result HasAcceptedPlant }
     ensures left { IfOk result (LeavesRecord (F.files shelf.old) (Some (check plant_name.now))) }
     ensures err { IfErr result (λ fault. IsOfInputs (fault_status fault)
         → IfSome (F.files shelf.old) (λ files.
@@ -161,6 +164,7 @@ fn gather_trial<'a, F: Shelf>(
     ensures ok { IfOk result (λ t. IfSome (F.files shelf.old) (λ files.
         Asks (Some (trial plant_name.now number)) files (task_of t files))) }
     ensures ready { IfOk result IsReady }
+    ensures accepted { IfOk result HasAcceptedPlant }
     ensures left { IfOk result (LeavesRecord (F.files shelf.old)
         (Some (trial plant_name.now number))) }
     ensures err { IfErr result (λ fault. IsOfInputs (fault_status fault)
@@ -211,6 +215,7 @@ fn gather_replay<'a, F: Shelf>(
         Asks (Some (replay plant_name.now record_name.now script_name.now)) files
         (task_of t files))) }
     ensures ready { IfOk result IsReady }
+    ensures accepted { IfOk result HasAcceptedPlant }
     ensures left { IfOk result (LeavesRecord (F.files shelf.old)
         (Some (replay plant_name.now record_name.now script_name.now))) }
     ensures err { IfErr result (λ fault. IsOfInputs (fault_status fault)
@@ -251,6 +256,7 @@ fn read_player<F: Shelf>(
     ensures ok { IfOk result (λ x. IfSome (F.files shelf.old) (λ files.
         PlaysScript plant.plant (text_named files script_name.now) x)) }
     ensures ready { IfOk result (λ x. HasPlayed x.plant x.script true x []) }
+    ensures plant { IfOk result (λ x. x.plant ≡ plant.plant) }
     ensures err { IfErr result (λ fault. IsOfInputs (fault_status fault)
         → IfSome (F.files shelf.old) (λ files.
         IsScriptRefusal (text_named files script_name.now) fault)) }

@@ -4,15 +4,25 @@ ghost use Rattle.clap.specs.Lexer.{usize_max};
 ghost use Rattle.dp_shell.specs.{Files};
 ghost use Rattle.dp_app.specs.declared.fault.Fault.{Fault};
 ghost use Rattle.dp_app.specs.CommandLine.{ArePlainWords};
-ghost use Rattle.dp_app.specs.{Asks, Command, Task, TellsReferenceForces, command_by, command_in};
+ghost use Rattle.dp_app.specs.{Asks, Command, IsOnAcceptedPlant, Task, TellsBoundedForces, TellsReferenceForces, command_by, command_in};
 
 use dp_core::laws::fresh_is_reference;
+use dp_machine::laws::replaced_reference_is_bounded;
 
 /// Where at most one computer was faulty in any cycle so far, each fresh force that is told of a cycle is the reference run's.
 pub fn fresh_forces_are_reference()
     ensures { (x : Result Task Fault) → TellsReferenceForces x }
 {
     fresh_is_reference();
+}
+
+/// On an accepted plant each of them is within the bound of the reference run of any other record that differs in what one
+/// position reference tells; and what a check tells are such bounds.
+pub fn fresh_forces_are_bounded()
+    ensures { (x : Result Task Fault) → IsOnAcceptedPlant x → TellsBoundedForces x }
+{
+    fresh_is_reference();
+    replaced_reference_is_bounded();
 }
 
 /// Words and files always ask for something, and for one thing alone.

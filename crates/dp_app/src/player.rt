@@ -45,14 +45,17 @@ impl Player {
         ensures count { OnOk result (self.new.count ≡ self.old.count + length (given feed.now)) }
         ensures cause { HasWriteCause (K.faults out.old) (K.faults out.new) result }
     {
-        match *feed {
+        match feed {
             Feed::More => Ok(None),
             Feed::Closed { frame, empty } => {
-                self.play_gap(out, &frame, empty)?;
+                self.play_gap(out, frame, *empty)?;
                 Ok(None)
             }
-            Feed::Fault { line, kind } => Ok(Some(Fault::BadRecord { line, kind })),
-            Feed::TooMany { cycle, .. } => Ok(Some(Fault::LongCycles { cycle })),
+            Feed::Fault { line, kind } => Ok(Some(Fault::BadRecord {
+                line: *line,
+                kind: *kind,
+            })),
+            Feed::TooMany { cycle, .. } => Ok(Some(Fault::LongCycles { cycle: *cycle })),
         }
     }
 

@@ -2,7 +2,7 @@
 ghost use Rattle.std.specs.Prelude.{◌≡◌, ◌⊎◌, IfSome, IsNone, Result};
 ghost use Rattle.dp_shell.specs.{Rose, texts_of};
 ghost use Rattle.dp_app.specs.{AnyRose, Asks, EndsAtRead, HasWritten, IsAnnounced, IsOfInputs, OthersKeep, ReadFailed};
-ghost use Rattle.dp_app.specs.{Task as Asked, TellsReferenceForces, blocks_in, command_in, files_read, outcome_of};
+ghost use Rattle.dp_app.specs.{IsOnAcceptedPlant, Task as Asked, TellsBoundedForces, TellsReferenceForces, blocks_in, command_in, files_read, outcome_of};
 ghost use Rattle.dp_app.specs.declared.fault.Fault.{Fault};
 ghost use Rattle.dp_app.specs.declared.fault.File.{File};
 
@@ -10,7 +10,7 @@ use crate::Status;
 use crate::check::check;
 use crate::ending::announce;
 use crate::inputs::{Task, gather};
-use crate::laws::fresh_forces_are_reference;
+use crate::laws::{fresh_forces_are_bounded, fresh_forces_are_reference};
 use crate::making::make;
 use crate::replay::replay;
 use crate::trial::trial;
@@ -46,6 +46,17 @@ pub fn run<F: Shelf, K: Sink>(alloc: Global, words: &[&str], shelf: &mut F, out:
         (x : Result Asked Fault) → Asks (command_in (texts_of words.now)) files x
         → TellsReferenceForces x) }
 
+    // And on an accepted plant it is within the bound of the reference run of any other record that differs in what one
+    // position reference tells; the numbers of a check are such bounds.
+    ensures bounded { IfSome (F.files shelf.old) (λ files.
+        (x : Result Asked Fault) → Asks (command_in (texts_of words.now)) files x
+        → IsOnAcceptedPlant x → TellsBoundedForces x) }
+
+    // The plant was accepted wherever the status is one that words and files give.
+    ensures accepted { IsOfInputs result → IfSome (F.files shelf.old) (λ files.
+        (x : Result Asked Fault) → Asks (command_in (texts_of words.now)) files x
+        → IsOnAcceptedPlant x) }
+
     // Usage comes exactly where the words are no command, but for a failed write of its line and want of memory.
     ensures usage { result ≡ Status.Usage → IsNone (command_in (texts_of words.now)) }
     ensures no_command { IsNone (command_in (texts_of words.now))
@@ -72,6 +83,7 @@ pub fn run<F: Shelf, K: Sink>(alloc: Global, words: &[&str], shelf: &mut F, out:
         (F.faults shelf.old) (F.faults shelf.new) }
 {
     fresh_forces_are_reference();
+    fresh_forces_are_bounded();
     match gather(alloc, &*words, shelf) {
         Ok(Task::Replay(mut inputs)) => {
             let name = inputs.record;

@@ -84,17 +84,17 @@ second_found None None c d i none e = absurd cc
 second_found (Some j) b c d i none e = absurd cc
 
 third_found : (a b c d : Option ℕ) (i : ℕ) → a ≡ None → b ≡ None → c ≡ Some i → of_four a b c d ≡ Some (Wind i)
-third_found None None (Some j) d i none no e = ap (λ k. Some (Wind k)) (some_is e)
-third_found None None None d i none no e = absurd cc
-third_found None (Some j) c d i none no e = absurd cc
-third_found (Some j) b c d i none no e = absurd cc
+third_found None None (Some j) d i no_pos no_gyro e = ap (λ k. Some (Wind k)) (some_is e)
+third_found None None None d i no_pos no_gyro e = absurd cc
+third_found None (Some j) c d i no_pos no_gyro e = absurd cc
+third_found (Some j) b c d i no_pos no_gyro e = absurd cc
 
 fourth_found : (a b c d : Option ℕ) (i : ℕ) → a ≡ None → b ≡ None → c ≡ None → d ≡ Some i → of_four a b c d ≡ Some (Group i)
-fourth_found None None None (Some j) i none no not e = ap (λ k. Some (Group k)) (some_is e)
-fourth_found None None None None i none no not e = absurd cc
-fourth_found None None (Some j) d i none no not e = absurd cc
-fourth_found None (Some j) c d i none no not e = absurd cc
-fourth_found (Some j) b c d i none no not e = absurd cc
+fourth_found None None None (Some j) i no_pos no_gyro no_wind e = ap (λ k. Some (Group k)) (some_is e)
+fourth_found None None None None i no_pos no_gyro no_wind e = absurd cc
+fourth_found None None (Some j) d i no_pos no_gyro no_wind e = absurd cc
+fourth_found None (Some j) c d i no_pos no_gyro no_wind e = absurd cc
+fourth_found (Some j) b c d i no_pos no_gyro no_wind e = absurd cc
 
 pub wire_back : (groups : ℕ) (w : Wire) → IsWire groups w → wire_of groups (name_of w) ≡ Some w
 unfolding wire_of

@@ -8,6 +8,11 @@ pub mod Inside
 pub mod Values
 pub mod Masks
 pub mod Wires
-pub mod Means
+pub mod RunningDemands
 pub mod Issues
 pub mod IssueLimits
+pub mod UsableWeights
+pub mod SharedPlaces
+pub mod RowForces
+pub mod PairedRuns
+pub mod AcceptedRuns

@@ -7,8 +7,10 @@ pub mod Ranges
 pub mod Accepted
 pub mod Machine
 pub mod Parts
+pub mod KeptDemands
 pub mod Inside
 pub mod Laws
+pub mod ReplacedReference
 pub use Rattle.dp_machine.specs.Groups.{lost_bit, lost_next}
 pub use Rattle.dp_machine.specs.Alarms.{cause_of, damaged_in, is_damaged}
 pub use Rattle.dp_machine.specs.Step.{alarms_by, first_state, forces_by, kept_at, limited_by, limits_at, limits_in, measured_by, plane_by, push_by, sensed_by, step_at, step_of, whole_demand, yaw_by}
@@ -18,3 +20,4 @@ pub use Rattle.dp_machine.specs.Machine.{MachineValue, first_machine, one_more, 
 pub use Rattle.dp_machine.specs.Parts.{AreEstimates, AreTaken, estimates_by, estimates_of, limited_cycle, plane_cycle, verdicts_by, windows_by, yaw_cycle}
 pub use Rattle.dp_machine.specs.Inside.{IsMachine, value_of}
 pub use Rattle.dp_machine.specs.Laws.{IssuesAreOfTheirCycle, IssuesAreWithinLimits, IssuesHaveAForceForEachThruster}
+pub use Rattle.dp_machine.specs.ReplacedReference.{ReplacedReferenceIsBounded, RunsShareAllButTheReplaced}

@@ -34,6 +34,7 @@ pub(crate) fn plane_after(
     ensures value { result ≡ plane_next plant.now.gains plane place (push_of demand wind) pair }
     ensures inside { IsInCertifiedSet plant.now.cert result }
 {
+    // laws: the next state is in the set too, so within the observer's range
     cycle_stays_inside(accepted);
     inside_is_narrow(accepted);
     let mut next = plane;

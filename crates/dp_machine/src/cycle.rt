@@ -59,6 +59,7 @@ impl Cycle {
         ensures whole { IsDemandWithin result.demand }
         ensures within { AreEstimates plant.now result.next }
     {
+        // a law: the plane is within the control law's range
         inside_is_narrow(accepted);
         let wind = push_by(plant, sensed.gust);
         let Asked { a: demand, limited } = asked_of(plant, cases, at, now, sensed.lost, pair, wind);

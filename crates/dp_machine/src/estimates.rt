@@ -33,6 +33,7 @@ impl Estimates {
         ensures value { result ≡ estimates_of (first_state plant.now) }
         ensures within { AreEstimates plant.now result }
     {
+        // a law: at rest at its start the plane is in the certified set
         rest_is_inside(accepted);
         Estimates {
             count: 0,

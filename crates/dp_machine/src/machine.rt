@@ -9,11 +9,11 @@ ghost use Rattle.dp_machine.specs.Step.{limits_at, step_at, step_of};
 
 use crate::alarms::alarms_of;
 use crate::cycle::Cycle;
+use crate::demands::Demands;
 use crate::estimates::Estimates;
 use crate::references::{References, measured_by};
 use crate::sensed::Sensed;
 use crate::{Issue, State, demands};
-use circular_buffer::HeapCircularBuffer;
 use dp_alloc::Cases;
 use dp_cert::Accepted;
 use dp_cert::laws::{inside_is_narrow, rest_is_inside};
@@ -31,7 +31,7 @@ pub struct Machine {
     trig: Trig,
     estimates: Estimates,
     references: References,
-    demands: HeapCircularBuffer<[i64; 3]>,
+    demands: Demands,
     steps: u64,
 }
 
@@ -147,6 +147,7 @@ impl Machine {
         requires { IsVectorWithin (2 ^ 43) at }
         ensures { self.new ≡ with_rest self.old at }
     {
+        // a law: at rest there the plane is in the certified set
         rest_is_inside(&self.accepted);
         self.estimates.plane = PlaneState::rest(at);
     }

@@ -39,13 +39,13 @@ lines_more bs hs k b h less same =
     rw (take_more bs k b less, take_more hs k h less') (pushed ∙ ap (λ n. thruster_lines (take k bs) (take k hs) ++ thruster_line n (get_or bs k b) (get_or hs k h)) long)
 
 -- what stood there, the lines so far, and the next one
-pub text_more : (old so_far piece new : List ℕ) (bs : List Ballot) (hs : List (List (Option ℤ))) (k : ℕ) (b : Ballot) (h : List (Option ℤ)) → k < length bs
-    → length bs ≡ length hs → so_far ≡ old ++ thruster_lines (take k bs) (take k hs) → piece ≡ thruster_line k (get_or bs k b) (get_or hs k h) → new ≡ so_far ++ piece
+pub text_more : (old so_far new : List ℕ) (bs : List Ballot) (hs : List (List (Option ℤ))) (k : ℕ) (b : Ballot) (h : List (Option ℤ)) → k < length bs
+    → length bs ≡ length hs → so_far ≡ old ++ thruster_lines (take k bs) (take k hs) → new ≡ so_far ++ thruster_line k (get_or bs k b) (get_or hs k h)
     → new ≡ old ++ thruster_lines (take (k + 1) bs) (take (k + 1) hs)
-text_more old so_far piece new bs hs k b h less same before line added =
+text_more old so_far new bs hs k b h less same before added =
     let more = lines_more bs hs k b h less same in
-    added ∙ ap (λ l. l ++ piece) before ∙ append_assoc old (thruster_lines (take k bs) (take k hs)) piece
-    ∙ ap (λ l. old ++ l) (ap (λ l. thruster_lines (take k bs) (take k hs) ++ l) line ∙ sym more)
+    let line = thruster_line k (get_or bs k b) (get_or hs k h) in
+    added ∙ ap (λ l. l ++ line) before ∙ append_assoc old (thruster_lines (take k bs) (take k hs)) line ∙ ap (λ l. old ++ l) (sym more)
 
 pub text_begins : (old : List ℕ) → old ≡ old ++ thruster_lines [] []
 unfolding thruster_lines

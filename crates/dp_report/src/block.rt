@@ -5,10 +5,9 @@ ghost use Rattle.dp_report.specs.{block_text, thruster_lines};
 
 use crate::TEXT;
 use crate::alarms::append_alarms;
-use crate::text::{cycle_line, thruster_line};
+use crate::text::{append_cycle, append_thruster};
 use arrayvec::ArrayVec;
 use dp_plant::{Alarms, Ballot, Mode};
-use dp_text::append;
 
 /// One cycle: how each computer takes part, for each thruster its ballot and the order that its voter holds from each computer, in
 /// newtons, and the alarms that at least two computers raise, where they are known. `ballots` and `held` are as long as there are
@@ -29,7 +28,7 @@ pub fn write_block(b: &Block, into: &mut ArrayVec<u8, TEXT>)
     ensures { into.new.items ≡ block_text b.now }
 {
     into.clear();
-    append(into, &cycle_line(b.cycle, &b.modes));
+    append_cycle(into, b.cycle, &b.modes);
     append_thrusters(into, &b.ballots, &b.held);
     append_alarms(into, &b.alarms);
 }
@@ -49,6 +48,6 @@ fn append_thrusters(
     let ballots = ballots.as_slice();
     let held = held.as_slice();
     for k in 0..ballots.len() {
-        append(into, &thruster_line(k as u64, ballots[k], &held[k]));
+        append_thruster(into, k as u64, ballots[k], &held[k]);
     }
 }

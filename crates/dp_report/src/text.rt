@@ -3,38 +3,35 @@ ghost use Rattle.std.specs.Prelude.{◌≡◌, ◌≤◌, ◌+◌, ◌*◌, ◌+
 ghost use Rattle.std.specs.List.{flat_map};
 ghost use Rattle.std.specs.Fmt.{signed_decimal};
 ghost use Rattle.arrayvec.specs.ArrayVec.{array_vec_len};
-ghost use Rattle.dp_report.specs.Text as Text;
 ghost use Rattle.dp_report.specs.{ballot_text, mode_letter, order_text};
+ghost use Rattle.dp_report.specs.Text.{cycle_line, thruster_line};
 
+use crate::TEXT;
 use arrayvec::ArrayVec;
 use dp_plant::{Ballot, Mode};
 use dp_text::{append, append_decimal, append_number};
 
-/// Room for the longest line.
-pub const LINE: usize = 128;
-
-/// The line of a cycle, and how each computer takes part in it.
+/// Appends the line of a cycle, and how each computer takes part in it.
 #[tactic(auto, unfolding(crate::specs::Text::cycle_line))]
-pub fn cycle_line(cycle: u64, modes: &[Mode; 3]) -> ArrayVec<u8, LINE>
-    ensures text { result.items ≡ Text.cycle_line cycle modes.now }
-    ensures len { array_vec_len result ≤ 31 }
+pub(crate) fn append_cycle(into: &mut ArrayVec<u8, TEXT>, cycle: u64, modes: &[Mode; 3])
+    requires { array_vec_len into.old + 31 ≤ TEXT }
+    ensures text { into.new.items ≡ into.old.items ++ cycle_line cycle modes.now }
+    ensures len { array_vec_len into.new ≤ array_vec_len into.old + 31 }
 {
-    let mut line = ArrayVec::new();
-    append(&mut line, b"cycle ");
-    append_decimal(&mut line, cycle);
-    append(&mut line, b" ");
-    append_letters(&mut line, modes);
-    append(&mut line, b"\n");
-    line
+    append(into, b"cycle ");
+    append_decimal(into, cycle);
+    append(into, b" ");
+    append_letters(into, modes);
+    append(into, b"\n");
 }
 
-fn append_letters(line: &mut ArrayVec<u8, LINE>, modes: &[Mode])
-    requires { array_vec_len line.old + length modes.now ≤ LINE }
-    ensures text { line.new.items ≡ line.old.items ++ map mode_letter modes.now }
-    ensures len { array_vec_len line.new ≡ array_vec_len line.old + length modes.now }
+fn append_letters(into: &mut ArrayVec<u8, TEXT>, modes: &[Mode])
+    requires { array_vec_len into.old + length modes.now ≤ TEXT }
+    ensures text { into.new.items ≡ into.old.items ++ map mode_letter modes.now }
+    ensures len { array_vec_len into.new ≡ array_vec_len into.old + length modes.now }
 {
     for mode in modes {
-        line.push(letter(*mode));
+        into.push(letter(*mode));
     }
 }
 
@@ -49,63 +46,67 @@ fn letter(mode: Mode) -> u8
     }
 }
 
-/// The line of thruster `k`: its ballot, and the order that its voter holds from each computer.
+/// Appends the line of thruster `k`: its ballot, and the order that its voter holds from each computer.
 #[tactic(auto, unfolding(crate::specs::Text::thruster_line))]
-pub fn thruster_line(k: u64, ballot: Ballot, orders: &[Option<i64>; 3]) -> ArrayVec<u8, LINE>
-    ensures text { result.items ≡ Text.thruster_line k ballot orders.now }
-    ensures len { array_vec_len result ≤ 108 }
+pub(crate) fn append_thruster(
+    into: &mut ArrayVec<u8, TEXT>,
+    k: u64,
+    ballot: Ballot,
+    orders: &[Option<i64>; 3],
+)
+    requires { array_vec_len into.old + 108 ≤ TEXT }
+    ensures text { into.new.items ≡ into.old.items ++ thruster_line k ballot orders.now }
+    ensures len { array_vec_len into.new ≤ array_vec_len into.old + 108 }
 {
-    let mut line = ArrayVec::new();
-    append(&mut line, b"t");
-    append_decimal(&mut line, k);
-    append_ballot(&mut line, ballot);
-    append_orders(&mut line, orders);
-    append(&mut line, b"\n");
-    line
+    append(into, b"t");
+    append_decimal(into, k);
+    append_ballot(into, ballot);
+    append_orders(into, orders);
+    append(into, b"\n");
 }
 
 /// A ballot's letter and its force.
 #[tactic(auto, unfolding(crate::specs::Text::ballot_text))]
-fn append_ballot(line: &mut ArrayVec<u8, LINE>, ballot: Ballot)
-    requires { array_vec_len line.old + 23 ≤ LINE }
-    ensures text { line.new.items ≡ line.old.items ++ ballot_text ballot }
-    ensures len { array_vec_len line.new ≤ array_vec_len line.old + 23 }
+fn append_ballot(into: &mut ArrayVec<u8, TEXT>, ballot: Ballot)
+    requires { array_vec_len into.old + 23 ≤ TEXT }
+    ensures text { into.new.items ≡ into.old.items ++ ballot_text ballot }
+    ensures len { array_vec_len into.new ≤ array_vec_len into.old + 23 }
 {
     match ballot {
-        Ballot::Fresh(force) => append_forced(line, b" F ", force),
-        Ballot::Held(force) => append_forced(line, b" H ", force),
-        Ballot::Zero => append(line, b" Z 0"),
+        Ballot::Fresh(force) => append_forced(into, b" F ", force),
+        Ballot::Held(force) => append_forced(into, b" H ", force),
+        Ballot::Zero => append(into, b" Z 0"),
     }
 }
 
-fn append_forced(line: &mut ArrayVec<u8, LINE>, letter: &[u8], force: i64)
-    requires { array_vec_len line.old + length letter.now + 20 ≤ LINE }
-    ensures text { line.new.items ≡ line.old.items ++ (letter.now ++ signed_decimal force) }
-    ensures len { array_vec_len line.new ≤ array_vec_len line.old + length letter.now + 20 }
+fn append_forced(into: &mut ArrayVec<u8, TEXT>, letter: &[u8], force: i64)
+    requires { array_vec_len into.old + length letter.now + 20 ≤ TEXT }
+    ensures text { into.new.items ≡ into.old.items ++ (letter.now ++ signed_decimal force) }
+    ensures len { array_vec_len into.new ≤ array_vec_len into.old + length letter.now + 20 }
 {
-    append(line, letter);
-    append_number(line, force);
+    append(into, letter);
+    append_number(into, force);
 }
 
-fn append_orders(line: &mut ArrayVec<u8, LINE>, orders: &[Option<i64>])
-    requires { array_vec_len line.old + 21 * length orders.now ≤ LINE }
-    ensures text { line.new.items ≡ line.old.items ++ flat_map order_text orders.now }
-    ensures len { array_vec_len line.new ≤ array_vec_len line.old + 21 * length orders.now }
+fn append_orders(into: &mut ArrayVec<u8, TEXT>, orders: &[Option<i64>])
+    requires { array_vec_len into.old + 21 * length orders.now ≤ TEXT }
+    ensures text { into.new.items ≡ into.old.items ++ flat_map order_text orders.now }
+    ensures len { array_vec_len into.new ≤ array_vec_len into.old + 21 * length orders.now }
 {
     for order in orders {
-        append_order(line, *order);
+        append_order(into, *order);
     }
 }
 
 /// An order's force, or a dash where there is none.
 #[tactic(auto, unfolding(crate::specs::Text::order_text))]
-fn append_order(line: &mut ArrayVec<u8, LINE>, order: Option<i64>)
-    requires { array_vec_len line.old + 21 ≤ LINE }
-    ensures text { line.new.items ≡ line.old.items ++ order_text order }
-    ensures len { array_vec_len line.new ≤ array_vec_len line.old + 21 }
+fn append_order(into: &mut ArrayVec<u8, TEXT>, order: Option<i64>)
+    requires { array_vec_len into.old + 21 ≤ TEXT }
+    ensures text { into.new.items ≡ into.old.items ++ order_text order }
+    ensures len { array_vec_len into.new ≤ array_vec_len into.old + 21 }
 {
     match order {
-        Some(force) => append_forced(line, b" ", force),
-        None => append(line, b" -"),
+        Some(force) => append_forced(into, b" ", force),
+        None => append(into, b" -"),
     }
 }

@@ -28,17 +28,21 @@ fn samples(rt: HostRuntime) {
 
 #[test]
 fn rates_and_roundings(rt: HostRuntime) {
-    for (edit, wanted) in [
-        ("99 rho = 1073741824", CertFault::Rate),
-        ("101 r = 27129", CertFault::RoundShort),
-        ("100 b = 0", CertFault::InputShort),
-        (
-            "100 b = 1125899906842624",
-            CertFault::TooWide { coordinate: 0 },
-        ),
-    ] {
-        assert_eq!(rt; fault(&rt, rt.alloc(), S1, edit), Some(wanted));
-    }
+    let rate = "99 rho = 1073741824";
+    assert_eq!(rt; fault(&rt, rt.alloc(), S1, rate), Some(CertFault::Rate));
+    let rounding = "101 r = 27129";
+    assert_eq!(rt;
+        fault(&rt, rt.alloc(), S1, rounding),
+        Some(CertFault::RoundShort)
+    );
+    let input = "100 b = 0";
+    assert_eq!(rt;
+        fault(&rt, rt.alloc(), S1, input),
+        Some(CertFault::InputShort)
+    );
+    let wide = "100 b = 1125899906842624";
+    let expected = CertFault::TooWide { coordinate: 0 };
+    assert_eq!(rt; fault(&rt, rt.alloc(), S1, wide), Some(expected));
 }
 
 fn vertex(short: i128) -> Option<CertFault> {
@@ -76,7 +80,14 @@ fn matrices_not_shown(rt: HostRuntime) {
 
 fn is_range_of(fault: Option<CertFault>, key: &str) -> bool {
     match fault {
-        Some(CertFault::Range { name }) => name.as_str() == key,
+        Some(fault) => names(fault, key),
+        None => false,
+    }
+}
+
+fn names(fault: CertFault, key: &str) -> bool {
+    match fault {
+        CertFault::Range { name } => name.as_str() == key,
         _ => false,
     }
 }

@@ -14,7 +14,9 @@ mod origin;
 /// A reader of records, by the sample plant.
 #[tactic(auto, using(dp_plant::proofs::PlantFacts::plant_facts))]
 fn reader(rt: &impl Abort, alloc: Global) -> Lines {
-    Lines::new(&plant_with(rt, alloc, S1), &Trig::new())
+    let plant = plant_with(rt, alloc, S1);
+    assert!(rt; plant.cycle_ms > 0 && plant.groups <= 8);
+    Lines::new(&plant, &Trig::new())
 }
 
 /// The answers to the bytes of a record, without `More` and without one that is the same as that before it, and then those of four

@@ -36,6 +36,8 @@ mod plant;
 #[cfg(test)]
 mod reftest;
 #[cfg(test)]
+mod replaced;
+#[cfg(test)]
 mod report;
 #[cfg(test)]
 mod rows;

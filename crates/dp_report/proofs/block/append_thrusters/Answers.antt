@@ -1,4 +1,4 @@
-use Rattle.std.proofs.Common.{◌∙◌, ap, length, arith, rules}
+use Rattle.std.proofs.Common.{arith, rules}
 use Rattle.dp_report.proofs.Rows.{text_begins, text_more}
 use Rattle.dp_report.proofs.block.append_thrusters.Goals as goal
 
@@ -7,6 +7,6 @@ loop-k-init c = record { text = text_begins _; room = omega arith }
 
 pub loop-k-preserved : goal.loop-k-preserved
 loop-k-preserved c = record {
-  text = text_more _ _ _ _ _ _ _ _ _ (omega arith) (search rules) c.loop-k.invariant.text (c.deref.ensures.0 ∙ c.thruster_line.ensures.text) c.append.ensures.text;
-  room = omega (arith, ap length c.deref.ensures.0);
+  text = text_more _ _ _ _ _ _ _ _ (omega arith) (search rules) c.loop-k.invariant.text c.append_thruster.ensures.text;
+  room = omega arith;
 }

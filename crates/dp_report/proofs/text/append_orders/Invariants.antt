@@ -6,6 +6,6 @@ use Rattle.dp_report.proofs.text.append_orders.Given as goal
 
 abbrev pub invariant-loop-order : goal.invariant-loop-order
 invariant-loop-order l = record {
-  text : l.line.items ≡ l.initial.line.items ++ flat_map order_text (take l.order-index l.orders);
-  room : array_vec_len l.line ≤ array_vec_len l.initial.line + 21 * l.order-index;
+  text : l.into.items ≡ l.initial.into.items ++ flat_map order_text (take l.order-index l.orders);
+  room : array_vec_len l.into ≤ array_vec_len l.initial.into + 21 * l.order-index;
 }
