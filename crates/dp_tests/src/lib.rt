@@ -16,6 +16,8 @@ mod allocation;
 #[cfg(test)]
 mod cert;
 #[cfg(test)]
+mod codec;
+#[cfg(test)]
 mod consequence;
 #[cfg(test)]
 mod fixed;

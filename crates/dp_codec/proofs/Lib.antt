@@ -1,0 +1,7 @@
+pub mod Fields
+pub mod Numerals
+pub mod Loop
+pub mod StateFields
+pub mod StateRanges
+pub mod Lengths
+pub mod Whole

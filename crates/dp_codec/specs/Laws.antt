@@ -1,0 +1,24 @@
+-- What reading and writing have to do with each other.
+use Rattle.std.specs.Prelude.{◌≡◌, ◌≤◌, ℕ, List, Ok, codes}
+use Rattle.std.specs.Int.{w32}
+use Rattle.dp_plant.specs.declared.plant.Plant.{Plant}
+use Rattle.dp_machine.specs.declared.state.State.{State}
+use Rattle.dp_codec.specs.Numbers.{unsigned_text}
+use Rattle.dp_codec.specs.Spelling.{IsPlantState, IsSoftware, mark_of, spelling_of, state_read}
+
+pub record AreMarks : Type 0 where
+  pub first : unsigned_text w32 (mark_of 1) ≡ codes "DPS1"
+  pub second : unsigned_text w32 (mark_of 2) ≡ codes "DPS2"
+
+-- what is written in a version that the software knows is read by it
+abbrev pub WrittenIsRead : Plant → Type 0
+WrittenIsRead p =
+    (software version : ℕ) (s : State) → IsSoftware software → 1 ≤ version → version ≤ software
+    → IsPlantState p s → state_read p software (spelling_of p version s) ≡ Ok s
+
+-- so states with one spelling are one state, in each version; in the second too, where states that
+-- were read in the first are compared
+abbrev pub SpellingsKeepApart : Plant → Type 0
+SpellingsKeepApart p =
+    (version : ℕ) (s t : State) → IsSoftware version → IsPlantState p s → IsPlantState p t
+    → spelling_of p version s ≡ spelling_of p version t → s ≡ t
