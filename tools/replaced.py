@@ -86,7 +86,7 @@ def records(rng, plant, replaced):
             group = rng.randrange(head["groups"])
             gone = rng.randrange(2)
             lost = lost & ~(1 << group) | gone << group
-            shared.append("%d group%d G %d" % (time, group, 1 - gone))
+            shared.append("%d grp%d G %d" % (time, group, 1 - gone))
         masks.append(lost)
         places = []
         for i, ref in enumerate(plant["ref"]):
@@ -146,7 +146,9 @@ def tried(program, folder, rng, number):
     for name, text in zip(names[1:], texts + [""]):
         with open(name, "w") as file:
             file.write(text)
-    one, other = (forces(answer(program, ["replay", names[0], name, names[3]])[1]) for name in names[1:3])
+    (status, first), (same, second) = (answer(program, ["replay", names[0], name, names[3]]) for name in names[1:3])
+    assert status == same == 0, (number, first[-1], second[-1])
+    one, other = forces(first), forces(second)
     assert one and one.keys() == other.keys(), (number, len(one), len(other))
     nearest, most = 0.0, 0
     for (cycle, k), force in one.items():

@@ -58,6 +58,6 @@ class Readme(ToolTest):
     def test_from_a_log_to_a_page(self):
         """The commands of the README, with the program that is given."""
         commands = re.search(r"\n((?:    .*\n)*    tools/log2record .*\n(?:    .*\n)*)", text_of("README.md"))[1]
-        commands = commands.replace("crates/dp_app/out/dp_app", " ".join(program())).replace("/tmp/", self.folder + "/")
+        commands = commands.replace("/tmp/", self.folder + "/").replace("crates/dp_app/out/dp_app", " ".join(program()))
         subprocess.run(["sh", "-ec", commands], cwd=at_root(), capture_output=True, check=True)
         self.assertIn("end 300", self.content("page.html"))

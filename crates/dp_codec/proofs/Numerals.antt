@@ -1,6 +1,6 @@
 -- The fields that are numbers, and fields that stand several times.
 use Rattle.std.proofs.Common.{◌≡◌, ℕ, zero, suc, ◌^◌, ◌%◌, ◌<◌, ◌≤◌, Bool, true, false, cond, ltb, List, [], ◌∷◌, ◌++◌, length, get_or, take, drop, Ok, Err, refl, sym, ap, subst, ◌∙◌, append_assoc, arith}
-use Rattle.std.specs.Prelude.{ℤ, neg_ℤ, ◌≤ℤ◌, nat_lt, nat_le, int_le, ◌&&◌, FitsSigned}
+use Rattle.std.specs.Prelude.{ℤ, ◌≤ℤ◌, nat_lt, nat_le, int_le, ◌&&◌, FitsSigned}
 use Rattle.std.specs.Int.{Width, w8, w32, w64, byte_len, from_be_bytes, to_be_bytes, cast_signed, cast_unsigned}
 use Rattle.std.specs.List.{flat_map, AllByRecursion}
 use Rattle.std.proofs.lemmas.Bool.{ltb-false, le-ltb, and_parts}

@@ -1,5 +1,5 @@
 -- The parts of a state as fields: a line for each, as in the table.
-use Rattle.std.proofs.Common.{◌≡◌, ℕ, ◌+◌, ◌-◌, ◌^◌, ◌==◌, ◌≤◌, List, [], ◌∷◌, length, Bool, true, false, if◌then◌else◌, refl, arith}
+use Rattle.std.proofs.Common.{◌≡◌, ℕ, ◌+◌, ◌-◌, ◌^◌, ◌==◌, List, [], ◌∷◌, length, Bool, true, false, if◌then◌else◌, refl, arith}
 use Rattle.std.specs.Prelude.{ℤ, pos, neg_ℤ, ◌-ℤ◌, min, slice_index, slice_index_or, FitsSigned}
 use Rattle.std.specs.Int.{w8, w32, w64}
 use Rattle.std.proofs.Math.Facts.{sfits_lit}
@@ -13,7 +13,7 @@ use Rattle.dp_plant.specs.Yaw.{turn}
 use Rattle.dp_reftest.specs.declared.kept.Kept.{Kept}
 use Rattle.dp_machine.specs.declared.state.State.{State}
 use Rattle.dp_machine.specs.Step.{kept_at}
-use Rattle.dp_codec.specs.Parts.{coordinates, demand_parts, demands_parts, frame_end, inside_parts, is_inside, kept_parts, places, plane_parts, sample_parts, samples_parts, state_parts, wave_limit, wave_parts, waves_stand, windows_of, yaw_parts}
+use Rattle.dp_codec.specs.Parts.{coordinates, demand_parts, demands_parts, frame_end, inside_parts, is_inside, kept_parts, plane_parts, sample_parts, samples_parts, state_parts, wave_limit, wave_parts, waves_stand, windows_of, yaw_parts}
 use Rattle.dp_codec.proofs.Fields.{Any, Field, absent, end, passing_field, row, table, worded}
 use Rattle.dp_codec.proofs.Numerals.{wide8, wide32, wide64, unsigned_field, signed_field, times_field}
 

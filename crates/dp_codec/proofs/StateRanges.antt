@@ -1,16 +1,15 @@
 -- The ranges of the table are those of the plant's states.
-use Rattle.std.proofs.Common.{◌≡◌, ◌<◌, ◌≤◌, ◌+◌, ◌-◌, ◌^◌, ◌==◌, ◌||◌, ℕ, zero, suc, Bool, true, false, if◌then◌else◌, List, [], ◌∷◌, length, All, refl, sym, ap, subst, ◌∙◌, arith, unsigned_abs}
-use Rattle.std.specs.Prelude.{ℤ, pos, neg_ℤ, ◌≤ℤ◌, ◌*ℤ◌, int_le, min, slice_index, slice_index_or, FitsSigned}
+use Rattle.std.proofs.Common.{◌≡◌, ◌<◌, ◌≤◌, ◌-◌, ◌^◌, ◌==◌, ◌||◌, ℕ, zero, suc, Bool, true, false, if◌then◌else◌, List, [], ◌∷◌, length, All, refl, sym, ap, subst, arith, unsigned_abs}
+use Rattle.std.specs.Prelude.{ℤ, pos, neg_ℤ, ◌≤ℤ◌, int_le, slice_index, FitsSigned}
 use Rattle.std.specs.Int.{w64}
 use Rattle.std.specs.List.{AllByRecursion}
 use Rattle.std.proofs.Math.Facts.{sfits_lit}
 use Rattle.std.proofs.Math.Pow.{pow_mono}
 use Rattle.std.proofs.lemmas.Int.{ints}
 use Rattle.std.proofs.lemmas.List.Elements.{All-nil, All-cons, All-head, All-tail}
-use Rattle.arrayvec.specs.ArrayVec.{ArrayVec}
 use Rattle.dp_alloc.specs.Ranges.{IsDemandWithin}
-use Rattle.dp_cert.specs.CertifiedSet.{InsideIsWithin, IsInCertifiedSet, IsInside, reach_by}
-use Rattle.dp_cert.specs.States.{HasNoWaves, IsStateOf, state_form}
+use Rattle.dp_cert.specs.CertifiedSet.{InsideIsWithin, IsInCertifiedSet}
+use Rattle.dp_cert.specs.States.{HasNoWaves, IsStateOf}
 use Rattle.dp_plant.specs.declared.cert.Parts.{Parts}
 use Rattle.dp_plant.specs.declared.cert.Parts.TheVariants.{Three, Five}
 use Rattle.dp_plant.specs.declared.place.Place.{Place}
@@ -19,15 +18,15 @@ use Rattle.dp_plant.specs.declared.plant.Plant.{Plant}
 use Rattle.dp_plant.specs.declared.references.RefLimits.{RefLimits}
 use Rattle.dp_plant.specs.declared.yaw.YawState.{YawState}
 use Rattle.dp_plant.specs.PlantRanges.{AreRefLimits, version_of}
-use Rattle.dp_plant.specs.Ranges.{IsPlaneWithin, IsVectorWithin}
+use Rattle.dp_plant.specs.Ranges.{IsVectorWithin}
 use Rattle.dp_plant.specs.Vectors.{zero_place}
 use Rattle.dp_plant.proofs.PlantFacts.{plant_groups, plant_references, plant_within}
 use Rattle.dp_reftest.specs.declared.kept.Kept.{Kept}
 use Rattle.dp_reftest.specs.Window.{AreNear, IsDated, IsKept}
 use Rattle.dp_machine.specs.declared.state.State.{State}
-use Rattle.dp_machine.specs.Ranges.{IsStateWithin, IsYawInRange}
+use Rattle.dp_machine.specs.Ranges.{IsYawInRange}
 use Rattle.dp_machine.specs.Step.{kept_at, limits_at, limits_in}
-use Rattle.dp_codec.specs.Parts.{frame_end, is_inside, wave_limit, waves_stand, windows_of}
+use Rattle.dp_codec.specs.Parts.{frame_end, is_inside, waves_stand, windows_of}
 use Rattle.dp_codec.specs.Spelling.{IsPlantState, IsThree}
 use Rattle.dp_codec.proofs.Numerals.{Fitting, Within}
 use Rattle.dp_codec.proofs.StateFields.{coordinates_field, demand_field, demands_field, inside_field, kept_field, limit_low, limit_high, places_field, plane_field, sample_field, samples_field, state_field, wave_base, wave_field, yaw_field}

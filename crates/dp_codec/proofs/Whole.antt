@@ -1,20 +1,18 @@
 -- What all bytes spell, and what is read of a spelling.
-use Rattle.std.proofs.Common.{◌≡◌, ◌⊎◌, inl, inr, ◌<◌, ◌≤◌, ◌+◌, ◌-◌, ◌*◌, ◌^◌, ◌==◌, ℕ, Bool, true, false, cond, eqb, List, [], ◌∷◌, ◌++◌, length, Result, Ok, Err, refl, sym, ap, subst, ◌∙◌, arith}
-use Rattle.std.specs.Prelude.{if◌then◌else◌, IfOk, OnOk}
+use Rattle.std.proofs.Common.{◌≡◌, inl, inr, ◌<◌, ◌≤◌, ◌+◌, ◌-◌, ◌^◌, ◌==◌, ℕ, Bool, true, false, cond, eqb, List, [], ◌++◌, length, All, Result, Ok, Err, refl, sym, ap, subst, ◌∙◌, arith}
+use Rattle.std.specs.Prelude.{if◌then◌else◌}
 use Rattle.std.specs.Int.{w32}
-use Rattle.std.proofs.lemmas.Bool.{eqb-true}
-use Rattle.std.proofs.lemmas.List.{append-nil, nil_from_length, length-append}
+use Rattle.std.proofs.lemmas.Bool.{cases_lt, eqb-true}
+use Rattle.std.proofs.lemmas.List.{append-nil, get_or_past, nil_from_length, length-append}
 use Rattle.dp_cert.specs.CertifiedSet.{InsideIsWithin}
 use Rattle.dp_plant.specs.declared.plant.Plant.{Plant}
 use Rattle.dp_machine.specs.declared.state.State.{State}
-use Rattle.dp_machine.specs.Step.{kept_at, limits_at}
-use Rattle.dp_codec.specs.declared.numbers.Left.{Left}
 use Rattle.dp_codec.specs.Format.{◌>>=◌, Read}
 use Rattle.dp_codec.specs.Numbers.{unsigned_at, unsigned_text}
 use Rattle.dp_codec.specs.Parts.{state_parts}
 use Rattle.dp_codec.specs.Spelling.{IsPlantState, IsSoftware, IsSpelled, all_of, length_at, length_text, mark_of, spelling_of, state_read}
-use Rattle.dp_codec.proofs.Fields.{IsBytes, Takes, bind_ok, ok_is}
-use Rattle.dp_codec.proofs.Numerals.{Fitting, unsigned_again, unsigned_takes, wide32}
+use Rattle.dp_codec.proofs.Fields.{IsBytes, bind_ok, ok_is}
+use Rattle.dp_codec.proofs.Numerals.{unsigned_again, unsigned_takes, wide32}
 use Rattle.dp_codec.proofs.Lengths.{length-w32, samples_in, state_short}
 use Rattle.dp_codec.proofs.StateFields.{state_field}
 use Rattle.dp_codec.proofs.StateRanges.{state_from, state_to, window_small}
@@ -116,6 +114,27 @@ spelling_short p version s h =
         by_test false t = rw t (omega (arith, length-w32 (8 + length text)))
 
 -- ---- the laws
+state_ok : (p : Plant) (software : ℕ) (bytes : List ℕ) (s : State) → all_of p software bytes ≡ Ok s → state_read p software bytes ≡ Ok s
+unfolding state_read
+state_ok p software bytes s e = rw e refl
+
+state_err : (p : Plant) (software : ℕ) (bytes : List ℕ) (left : ℕ) → all_of p software bytes ≡ Err left → state_read p software bytes ≡ Err (length bytes - left)
+unfolding state_read
+state_err p software bytes left e = rw e refl
+
+pub read_is_written : (p : Plant) (software : ℕ) (bytes : List ℕ) (s : State) → IsSoftware software → All (λ b. b < 256) bytes → state_read p software bytes ≡ Ok s → IsSpelled p software bytes s
+read_is_written p software bytes s sw small e = all_takes p software sw bytes s (bytes_of bytes small) (by_result (all_of p software bytes) refl)
+  where
+    bytes_of : (bytes : List ℕ) → All (λ b. b < 256) bytes → IsBytes bytes
+    bytes_of bytes h i = elim (cases_lt i (length bytes)) [
+      | inl less ↦ h i 0 less
+      | inr more ↦ rw (get_or_past bytes i 0 more) (omega arith)
+    ]
+
+    by_result : (r : Result State ℕ) → all_of p software bytes ≡ r → all_of p software bytes ≡ Ok s
+    by_result (Ok t) h = h ∙ sym (state_ok p software bytes t h) ∙ e
+    by_result (Err left) h = absurd (let fault = state_err p software bytes left h in cc)
+
 pub written_is_read : (p : Plant) → InsideIsWithin p.cert → (software version : ℕ) (s : State) → IsSoftware software → 1 ≤ version → version ≤ software → IsPlantState p s → state_read p software (spelling_of p version s) ≡ Ok s
 unfolding state_read
 written_is_read p law software version s sw low high h = rw (all_again p software version s sw low high law h) refl

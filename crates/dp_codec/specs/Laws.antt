@@ -1,10 +1,10 @@
 -- What reading and writing have to do with each other.
-use Rattle.std.specs.Prelude.{◌≡◌, ◌≤◌, ℕ, List, Ok, codes}
+use Rattle.std.specs.Prelude.{◌≡◌, ◌<◌, ◌≤◌, ℕ, List, All, Ok, codes}
 use Rattle.std.specs.Int.{w32}
 use Rattle.dp_plant.specs.declared.plant.Plant.{Plant}
 use Rattle.dp_machine.specs.declared.state.State.{State}
 use Rattle.dp_codec.specs.Numbers.{unsigned_text}
-use Rattle.dp_codec.specs.Spelling.{IsPlantState, IsSoftware, mark_of, spelling_of, state_read}
+use Rattle.dp_codec.specs.Spelling.{IsPlantState, IsSoftware, IsSpelled, mark_of, spelling_of, state_read}
 
 pub record AreMarks : Type 0 where
   pub first : unsigned_text w32 (mark_of 1) ≡ codes "DPS1"
@@ -15,6 +15,12 @@ abbrev pub WrittenIsRead : Plant → Type 0
 WrittenIsRead p =
     (software version : ℕ) (s : State) → IsSoftware software → 1 ≤ version → version ≤ software
     → IsPlantState p s → state_read p software (spelling_of p version s) ≡ Ok s
+
+-- and what is read of bytes is a state that they spell
+abbrev pub ReadIsWritten : Type 0
+ReadIsWritten =
+    (p : Plant) (software : ℕ) (bytes : List ℕ) (s : State) → IsSoftware software
+    → All (λ b. b < 256) bytes → state_read p software bytes ≡ Ok s → IsSpelled p software bytes s
 
 -- so states with one spelling are one state, in each version; in the second too, where states that
 -- were read in the first are compared

@@ -1,6 +1,6 @@
 //! What reading and writing have to do with each other: each law is the contract of a function that does nothing. The definitions are in
 //! `specs/Laws`.
-ghost use Rattle.dp_codec.specs.{AreMarks, SpellingsKeepApart, WrittenIsRead};
+ghost use Rattle.dp_codec.specs.{AreMarks, ReadIsWritten, SpellingsKeepApart, WrittenIsRead};
 
 use dp_machine::Machine;
 
@@ -15,6 +15,11 @@ pub fn written_is_read(m: &Machine)
 {
     m.inside_is_within();
 }
+
+/// What is read of bytes is a state that they spell: no state has two spellings of one version.
+pub fn read_is_written()
+    ensures { ReadIsWritten }
+{}
 
 /// States that differ have spellings that differ, in each version. So states that were read in spelling 1 may be compared in spelling 2.
 pub fn spellings_keep_apart(m: &Machine)

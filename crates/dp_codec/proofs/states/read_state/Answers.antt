@@ -1,4 +1,4 @@
-use Rattle.std.proofs.Common.{◌≡◌, length, refl, sym, ap, subst, ◌∙◌, arith}
+use Rattle.std.proofs.Common.{length, refl, sym, ap, subst, ◌∙◌, arith}
 use Rattle.dp_machine.specs.Machine.{MachineValue}
 use Rattle.dp_codec.specs.Spelling.{IsSpelled, all_of, state_read}
 use Rattle.dp_codec.proofs.Fields.{ok_is}

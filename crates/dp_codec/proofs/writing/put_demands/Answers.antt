@@ -1,4 +1,4 @@
-use Rattle.std.proofs.Common.{ℕ, ℤ, List, [], All, arith, append_assoc, subst}
+use Rattle.std.proofs.Common.{ℤ, List, [], All, arith, append_assoc, subst}
 use Rattle.std.proofs.lemmas.Grind.{common_steps}
 use Rattle.std.proofs.lemmas.List.Elements.{All-from_get_or}
 use Rattle.dp_codec.specs.Spelling.{IsThree}
