@@ -1,11 +1,11 @@
 //! One component of the plane, a cycle later.
-ghost use Rattle.std.specs.Prelude.{◌≡◌, ◌≤◌, ◌^◌, ◌+ℤ◌, ◌-ℤ◌, ◌*ℤ◌, unsigned_abs};
+ghost use Rattle.std.specs.Prelude.{◌≡◌, ◌≤◌, ◌+◌, ◌^◌, ◌+ℤ◌, ◌-ℤ◌, ◌*ℤ◌, unsigned_abs};
 ghost use Rattle.dp_fixed.specs.{floor_of, full_scale};
 ghost use Rattle.dp_plant.specs.declared.plane.Component.{Component};
 ghost use Rattle.dp_plant.specs.{IsComponentWithin, IsObserverGains, component_next};
 
 use crate::motion::{bias_next, place_next, velocity_next};
-use dp_fixed::{Q, difference, floor_div, narrow, product, sum};
+use dp_fixed::{Q, floor_div, narrow, product, sum};
 use dp_plant::{Component, Gains};
 
 /// One component a cycle later.
@@ -34,7 +34,16 @@ fn offset(x: Component, y: i64) -> i128
     ensures value { result ≡ (y -ℤ x.eta) -ℤ x.wave_q }
     ensures bound { unsigned_abs result ≤ 2 ^ 58 }
 {
-    difference(difference(y as i128, x.eta as i128), x.wave_q as i128)
+    less(less(y, x.eta), x.wave_q) as i128
+}
+
+fn less(a: i64, b: i64) -> i64
+    requires a { unsigned_abs a ≤ 2 ^ 57 }
+    requires b { unsigned_abs b ≤ 2 ^ 56 }
+    ensures value { result ≡ a -ℤ b }
+    ensures bound { unsigned_abs result ≤ unsigned_abs a + unsigned_abs b }
+{
+    a - b
 }
 
 /// A wave state a cycle later, by its row of the filter's matrix and its gain on the offset.

@@ -1,3 +1,4 @@
 pub mod AxisAnswers
 pub mod AxisRanges
 pub mod ThreeAnswers
+pub mod NearTurns

@@ -1,6 +1,7 @@
 //! A state's error, velocity and bias along the vessel's axes.
 ghost use Rattle.std.specs.Prelude.{◌≡◌, ◌≤◌, ◌^◌, unsigned_abs};
-ghost use Rattle.dp_plant.specs.{IsPair, IsPlaneSetpoint, IsPlaneWithin, IsVectorWithin, IsYawSetpoint, IsYawWithin, along_surge, along_sway, offset};
+ghost use Rattle.dp_fixed.specs.{wrap_of};
+ghost use Rattle.dp_plant.specs.{IsPair, IsPlaneSetpoint, IsPlaneWithin, IsVectorWithin, IsYawSetpoint, IsYawWithin, along_surge, along_sway, offset, turn};
 ghost use Rattle.dp_pid.specs.Axis.{IsAlongWithin};
 ghost use Rattle.dp_pid.specs.Body.{surge_of, sway_of, yaw_of};
 
@@ -10,6 +11,9 @@ use dp_plant::{Place, PlaneState, Setpoint, YawState};
 
 /// 360 degrees in nanodegrees.
 const TURN: i128 = 360_000_000_000;
+
+/// 180 degrees in nanodegrees.
+const HALF_TURN: i128 = 180_000_000_000;
 
 /// What the plane's state is along surge and sway.
 #[derive(Clone, Copy)]
@@ -92,8 +96,22 @@ pub(crate) fn in_yaw(setpoint: &Setpoint, x: &YawState) -> Along
     ensures within { IsAlongWithin result }
 {
     Along {
-        error: wrap(difference(x.psi as i128, setpoint.psi as i128), TURN),
+        error: nearest(difference(x.psi as i128, setpoint.psi as i128)),
         velocity: x.rate as i128,
         bias: x.beta as i128,
+    }
+}
+
+/// An angle, the nearer way round. Most errors are less than half a turn as they stand.
+#[tactic(auto, using(crate::proofs::NearTurns::wrap_near))]
+fn nearest(angle: i128) -> i128
+    requires { unsigned_abs angle ≤ 2 ^ 58 }
+    ensures value { result ≡ wrap_of angle turn }
+    ensures bound { unsigned_abs result ≤ 2 ^ 38 }
+{
+    if -HALF_TURN <= angle && angle < HALF_TURN {
+        angle
+    } else {
+        wrap(angle, TURN)
     }
 }

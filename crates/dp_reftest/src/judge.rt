@@ -1,11 +1,12 @@
 //! The verdict, read off the sums.
 ghost use Rattle.std.specs.Prelude.{◌≡◌, ℕ, List, ◌≤◌, ◌<◌, ◌^◌, ◌+◌, ◌-◌, ◌-ℤ◌, ◌*ℤ◌, ◌≤ℤ◌, ◌<ℤ◌, pos, unsigned_abs};
+ghost use Rattle.dp_fixed.specs.{IsFloor, floor_of};
 ghost use Rattle.dp_plant.specs.declared.place.Place.{Place};
 ghost use Rattle.dp_plant.specs.{AreRefLimits, IsVectorWithin};
 ghost use Rattle.dp_reftest.specs.{AreNear, AreSums, EndsIn, IsVerdictWithin, is_frozen_by, kept_by, spread_by, square_millimetres, sums_of, variance_by, verdict_by, verdict_by_samples, verdict_by_variance, verdict_of, weight_of};
 
 use crate::Sums;
-use dp_fixed::{difference, floor_div, product};
+use dp_fixed::{difference, floor_div, narrow, product};
 use dp_plant::{Place, RefLimits, Verdict};
 
 impl Sums {
@@ -113,7 +114,8 @@ fn total_squared(z: i128) -> i128
     ensures low { pos 0 ≤ℤ result }
     ensures high { result ≤ℤ pos (2 ^ 96) }
 {
-    z * z
+    let part = narrow(z);
+    part as i128 * part as i128
 }
 
 /// The square of a count, times 10^12: by it nm² become mm².
@@ -151,5 +153,14 @@ fn weight(variance: i128) -> u32
     ensures low { 1 ≤ result }
     ensures high { result ≤ 2 ^ 20 }
 {
-    floor_div(1 << 20, 1 + variance).max(1) as u32
+    most_over(1 + narrow(variance)).max(1) as u32
+}
+
+/// 2^20 over a number, rounded down.
+fn most_over(d: i64) -> i64
+    requires { pos 0 <ℤ d }
+    ensures value { result ≡ floor_of (pos (2 ^ 20)) d }
+    ensures floor { IsFloor (pos (2 ^ 20)) d result }
+{
+    (1i64 << 20).div_euclid(d)
 }

@@ -135,16 +135,18 @@ fn append_demands(into: &mut ArrayVec<u8, TEXT>, alarms: &Alarms)
 }
 
 /// Appends the lines of the wires with damage, in the order of the wires.
-#[tactic(auto, unfolding(crate::specs::Alarms::damage_lines))]
+#[tactic(auto, using(crate::proofs::Nothing::no_damage), unfolding(crate::specs::Alarms::damage_lines))]
 fn append_damage(into: &mut ArrayVec<u8, TEXT>, mask: u32)
     requires { array_vec_len into.old + 663 ≤ TEXT }
     ensures text { into.new.items ≡ into.old.items ++ damage_lines mask }
     ensures len { array_vec_len into.new ≤ array_vec_len into.old + 663 }
 {
-    append_numbered(into, b"damage pos", mask, 0, 3);
-    append_numbered(into, b"damage gyro", mask, 3, 3);
-    append_numbered(into, b"damage wind", mask, 6, 3);
-    append_numbered(into, b"damage grp", mask, 9, 8);
+    if mask != 0 {
+        append_numbered(into, b"damage pos", mask, 0, 3);
+        append_numbered(into, b"damage gyro", mask, 3, 3);
+        append_numbered(into, b"damage wind", mask, 6, 3);
+        append_numbered(into, b"damage grp", mask, 9, 8);
+    }
 }
 
 /// Appends the lines of `count` things of a kind, of which bit `first` of the mask is the first.
@@ -185,11 +187,13 @@ fn append_numbered_line(into: &mut ArrayVec<u8, TEXT>, raised: bool, words: &[u8
 }
 
 /// Appends the lines of the groups whose loss would not be survived.
-#[tactic(auto, unfolding(crate::specs::Alarms::consequence_lines))]
+#[tactic(auto, using(crate::proofs::Nothing::no_consequence), unfolding(crate::specs::Alarms::consequence_lines))]
 fn append_consequences(into: &mut ArrayVec<u8, TEXT>, lost: u8)
     requires { array_vec_len into.old + 312 ≤ TEXT }
     ensures text { into.new.items ≡ into.old.items ++ consequence_lines lost }
     ensures len { array_vec_len into.new ≤ array_vec_len into.old + 312 }
 {
-    append_numbered(into, b"consequence ", u32::from(lost), 0, 8);
+    if lost != 0 {
+        append_numbered(into, b"consequence ", u32::from(lost), 0, 8);
+    }
 }

@@ -73,19 +73,16 @@ fn append_ballot(into: &mut ArrayVec<u8, TEXT>, ballot: Ballot)
     ensures len { array_vec_len into.new ≤ array_vec_len into.old + 23 }
 {
     match ballot {
-        Ballot::Fresh(force) => append_forced(into, b" F ", force),
-        Ballot::Held(force) => append_forced(into, b" H ", force),
+        Ballot::Fresh(force) => {
+            append(into, b" F ");
+            append_number(into, force);
+        }
+        Ballot::Held(force) => {
+            append(into, b" H ");
+            append_number(into, force);
+        }
         Ballot::Zero => append(into, b" Z 0"),
     }
-}
-
-fn append_forced(into: &mut ArrayVec<u8, TEXT>, letter: &[u8], force: i64)
-    requires { array_vec_len into.old + length letter.now + 20 ≤ TEXT }
-    ensures text { into.new.items ≡ into.old.items ++ (letter.now ++ signed_decimal force) }
-    ensures len { array_vec_len into.new ≤ array_vec_len into.old + length letter.now + 20 }
-{
-    append(into, letter);
-    append_number(into, force);
 }
 
 fn append_orders(into: &mut ArrayVec<u8, TEXT>, orders: &[Option<i64>])
@@ -106,7 +103,10 @@ fn append_order(into: &mut ArrayVec<u8, TEXT>, order: Option<i64>)
     ensures len { array_vec_len into.new ≤ array_vec_len into.old + 21 }
 {
     match order {
-        Some(force) => append_forced(into, b" ", force),
+        Some(force) => {
+            into.push(b' ');
+            append_number(into, force);
+        }
         None => append(into, b" -"),
     }
 }

@@ -4,3 +4,4 @@ pub mod Digits
 pub mod Places
 pub mod Signs
 pub mod JoinedParts
+pub mod Decimals
