@@ -199,6 +199,21 @@ FAILURES = {
                       [line for cycle in range(FROM, TO, 2) for line in
                        each(cycle, cycle + 1, "run 0", "run 1", "orders 0", "orders 1", "orders 2")
                        + each(cycle + 1, cycle + 2, *RUNS, "run 2", "orders 0", "orders 1", "orders 2")]),
+    "computer_rejoins": (watch(), "Computer 2 stops in cycle 8, starts again in cycle 12, and is told the states of the others in cycle 13.",
+                         ["8 stop 2", "8 usual", "12 restart 2", "12 usual", "13 usual", "13 tell 0 2", "13 tell 1 2"]),
+    "rejoining_computer_lied_to": (watch(), "Computer 2 starts again in cycle 8. Computer 1 lies to it about the place in cycles 9 to 12, and tells true in 13.",
+                                   ["8 restart 2", "8 usual"] + each(9, 13, "usual", "tell 0 2", "lie 1 2 20000000000 0")
+                                   + ["13 usual", "13 tell 0 2", "13 tell 1 2"]),
+    "rejoining_computer_sent_junk": (watch(), "Computer 2 starts again in cycle 8, and is sent bytes that spell no state before the two true states.",
+                                     ["8 restart 2", "8 usual", "9 usual", "9 tell 0 2", "9 junk 1 2 4450533100000000000000", "9 tell 0 2",
+                                      "10 usual", "10 junk 1 2 00", "10 tell 0 2", "10 tell 1 2"]),
+    "two_faulty_in_turn": (watch(), "Computer 1 says false forces in cycle 8, starts again in cycle 9 and rejoins; computer 2 is skewed in cycle 10.",
+                           ["8 say 1 0 100000", "8 usual", "9 restart 1", "9 run 0", "9 run 2", "9 tell 0 1", "9 tell 2 1", "9 orders 0", "9 orders 2",
+                            "10 skew 2 20000000000 0", "10 usual"]),
+    "software_upgraded": (watch(), "Software 2 is put on computers 2, 1 and 0, one after another; each rejoins before the next leaves.",
+                          [line for cycle, one, others in ((8, 2, (0, 1)), (12, 1, (0, 2)), (16, 0, (1, 2)))
+                           for line in ["%d upgrade %d" % (cycle, one), "%d usual" % cycle, "%d usual" % (cycle + 1)]
+                           + ["%d tell %d %d" % (cycle + 1, other, one) for other in others]]),
     "link_lost": (watch(), "The orders of computer 0 don't reach the voters of t0 and t2.",
                   each(FROM, TO, *RUNS, "order 0 1", "order 0 3", "order 0 4", "order 0 5", "orders 1", "orders 2")),
     "two_computers_lost": (watch(), "Computer 2 stops in cycle 8, and computer 1 in cycle 12.", ["8 stop 2", "8 usual", "12 stop 1", "12 usual"]),

@@ -1,0 +1,11 @@
+//! What the tests of several crates share: how a row of a table is read, one string each, and the sample plants with lines edited.
+//!
+//! It holds no test and nothing of the program, and stands on `dp_plant` alone, so that the crates of tests beside each other have it
+//! once.
+#![tactic(auto)]
+
+mod plants;
+mod rows;
+
+pub use plants::{edited, plant_with};
+pub use rows::{cut, natural, number, parts};

@@ -1,5 +1,0 @@
-use Rattle.std.proofs.Common.{rules}
-use Rattle.dp_tests.proofs.allocation.is_in_box.Goals as goal
-
-pub returns : goal.returns
-returns c = λ yes. record { surge = search rules; sway = search rules; yaw = search (rules, yes) }
