@@ -283,8 +283,30 @@ def force(rng):
     return rng.choice([rng.randrange(-100000, 100001), 0, 250000, 250001, -150000, -150001, 60000000, 10 ** 18 - 1, 1 - 10 ** 18])
 
 
+def two(rng):
+    """Two different computers."""
+    return "%d %d" % tuple(rng.sample(range(3), 2))
+
+
+def junk(rng):
+    """Bytes that are offered as a state: any, or such as a spelling begins with."""
+    text = bytes(rng.randrange(256) for _ in range(rng.choice([1, 2, 8, 63, 64])))
+    if one_in(rng, 3):
+        text = rng.choice([b"DPS1", b"DPS2"]) + rng.choice([b"", b"\x00\x00\x00", b"\x00\x00\x00\x0d", b"\x00\x00\x00\xe5" + text[:48]])
+    return text.hex()
+
+
 def act(rng):
     """A verb and its arguments."""
+    if one_in(rng, 3):
+        return rng.choice([
+            lambda: "tell %s" % two(rng),
+            lambda: "tell %s" % two(rng),
+            lambda: "lie %s %d %d" % (two(rng), coordinate(rng), coordinate(rng)),
+            lambda: "junk %s %s" % (two(rng), junk(rng)),
+            lambda: "restart %d" % computer(rng),
+            lambda: "upgrade %d" % computer(rng),
+        ])()
     return rng.choice([
         lambda: "usual",
         lambda: "run %d" % computer(rng),
@@ -303,16 +325,23 @@ def faulty_act(rng, cycle):
     return rng.choice([
         # verb
         "%d" % cycle, "%d " % cycle, "usual", "%d Usual" % cycle, "%d usual 0" % cycle, "%d run" % cycle, "%d run 0 1" % cycle,
-        "%d orders 0 " % cycle, "%d  run 0" % cycle, " %d run 0" % cycle, "%d order 0" % cycle, "%d skew 0 1" % cycle, "%d tell 0 1" % cycle,
-        "%d lie 0 1 0 0" % cycle, "%d junk 0 1 00" % cycle, "%d restart 0" % cycle, "%d usual%s" % (cycle, " " * 190), "\t", " #",
+        "%d orders 0 " % cycle, "%d  run 0" % cycle, " %d run 0" % cycle, "%d order 0" % cycle, "%d skew 0 1" % cycle, "%d tell 0" % cycle,
+        "%d tell 0 1 2" % cycle, "%d lie 0 1 0" % cycle, "%d junk 0 1" % cycle, "%d junk 0 1 00 00" % cycle, "%d restart" % cycle, "%d upgrade 0 0" % cycle,
+        "%d usual%s" % (cycle, " " * 190), "\t", " #",
         # number
         "x usual", "-1 usual", "+1 run 0", "%d run x" % cycle, "%d run " % cycle, "%d run -1" % cycle, "%d orders +1" % cycle,
         "%d skew 0 1.0 0" % cycle, "%d skew 0 - 0" % cycle, "%d say 0 0 %d" % (cycle, 1 << 62), "%s usual" % ("9" * 19), "%d order 0 -0" % cycle,
+        "%d junk 0 1 0g" % cycle, "%d junk 0 1 AB" % cycle, "%d junk 0 0 zz" % cycle, "%d junk 0 1 +0" % cycle, "%d junk 0 1 %sG" % (cycle, "0" * 130),
+        "%d tell 0 x" % cycle, "%d lie 0 0 1.0 0" % cycle, "%d restart -0" % cycle, "%d upgrade +1" % cycle,
         # range
         "%d run 3" % cycle, "%d orders 9" % cycle, "%d order 0 12" % cycle, "%d skew 0 %d 0" % (cycle, (1 << 43) + 1),
         "%d skew 0 0 %d" % (cycle, -(1 << 43) - 1), "%d stop %s" % (cycle, "9" * 18), "1048576 usual",
+        "%d tell 1 1" % cycle, "%d tell 0 3" % cycle, "%d lie 2 2 0 0" % cycle, "%d lie 0 1 0 %d" % (cycle, -(1 << 43) - 1), "%d junk 0 1 " % cycle,
+        "%d junk 0 1 0" % cycle, "%d junk 0 1 000" % cycle, "%d junk 0 1 %s" % (cycle, "0" * 130), "%d junk 1 1 00" % cycle, "%d restart 3" % cycle,
+        "%d upgrade 9" % cycle,
         # order, and good lines
         "%d usual" % max(0, cycle - 1), "%d usual" % (cycle // 2), "0 usual", "1048575 usual", "%018d usual" % cycle, "%d skew 00 -0 000" % cycle, "%d usual" % cycle,
+        "%d tell 00 02" % cycle, "%d lie 0 1 -0 %d" % (cycle, 1 << 43), "%d junk 2 0 %s" % (cycle, "5a" * 64), "%d restart 002" % cycle, "%d upgrade 0" % cycle,
     ])
 
 
@@ -328,7 +357,24 @@ def acts_of_cycle(rng, plan):
         return ["run 0", "run 1", "orders 0"] + (["orders 1"] if one_in(rng, 3) else [])
     if plan == "late":          # frames wait, and are run all together
         return rng.choice([["run 0", "run 1"], ["run 2", "run 2", "run 2", "usual"], ["orders 2", "usual"]])
+    if plan == "rejoin":        # a computer is started again, and the other two tell it their states
+        return rejoining(rng, computer(rng))
+    if plan == "deceived":      # one of the two that tell it lies
+        acts = rejoining(rng, 2)
+        acts.insert(rng.randrange(len(acts) + 1), "lie 1 2 %d %d" % (coordinate(rng), coordinate(rng)))
+        return acts
     return [act(rng) for _ in range(rng.randrange(1, 7))]
+
+
+def rejoining(rng, c):
+    others = [a for a in range(3) if a != c]
+    rng.shuffle(others)
+    acts = ["usual"] + ["tell %d %d" % (a, c) for a in others]
+    if one_in(rng, 4):
+        acts.insert(rng.randrange(len(acts) + 1), "%s %d" % (rng.choice(["restart", "restart", "upgrade", "stop"]), c))
+    if one_in(rng, 6):
+        acts.insert(rng.randrange(len(acts) + 1), act(rng))
+    return acts
 
 
 def script(rng):
@@ -336,7 +382,7 @@ def script(rng):
         return rng.choice(["", "\n", "# nothing\n", "# nothing", "\r\n"])
     if one_in(rng, 250):        # as many lines as a script may have, or one more
         return "# many\n" + "0 stop 2\n" * rng.choice([1 << 16, (1 << 16) + 1])
-    plan = rng.choice(["asleep", "skewed", "lying", "alone", "late", "any", "any", "any"])
+    plan = rng.choice(["asleep", "skewed", "lying", "alone", "late", "rejoin", "rejoin", "deceived", "any", "any", "any"])
     skip = rng.choice([1, 1, 1, 2, 5])
     faulty = one_in(rng, 4)
     lines, cycle = [], rng.choice([0, 0, 1, 3])

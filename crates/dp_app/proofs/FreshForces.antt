@@ -40,7 +40,7 @@ pub record Found (p : Plant) (script : List TimedAct) (fs : List Frame) (es : Li
 some_is : {A : Type 0} (x y : A) → Some x ≡ Some y → x ≡ y
 some_is x y e = cc
 
-found : (p : Plant) (script : List TimedAct) (fs : List Frame) (es : List Event) (n : ℕ) (b : Block) → slice_get (blocks p script fs es) n ≡ Some b → Found p script fs es n b
+pub found : (p : Plant) (script : List TimedAct) (fs : List Frame) (es : List Event) (n : ℕ) (b : Block) → slice_get (blocks p script fs es) n ≡ Some b → Found p script fs es n b
 unfolding blocks play_events
 found p script [] es n b e = absurd cc
 found p script (f ∷ fs) es zero b e = record { frame = f; at = refl; is = sym (some_is _ b e) }
@@ -48,7 +48,7 @@ found p script (f ∷ fs) es (suc n) b e =
     let later = found p script fs (cycle_events p script f es) n b e in
     record { frame = later.frame; at = later.at; is = later.is }
 
-range_at : (a n k x : ℕ) → slice_get (range_with_len a n) k ≡ Some x → (x ≡ a + k) × (k < n)
+pub range_at : (a n k x : ℕ) → slice_get (range_with_len a n) k ≡ Some x → (x ≡ a + k) × (k < n)
 range_at a zero k x e = absurd cc
 range_at a (suc n) zero x e = let same : a ≡ x = some_is a x e in (omega (arith, same), omega arith)
 range_at a (suc n) (suc k) x e = let later = range_at (a + 1) n k x e in (omega (arith, later.0), omega (arith, later.1))
@@ -71,23 +71,24 @@ within [] n f e = absurd cc
 within (g ∷ fs) zero f e = omega arith
 within (g ∷ fs) (suc n) f e = let later = within fs n f e in omega arith
 
-module _ (law : FreshIsReference) (p : Plant) (script : List TimedAct) (fs : List Frame) where
-  cycle_is : (n : ℕ) (f : Frame) → slice_get fs n ≡ Some f → cycle_events p script f (play_events p script (take n fs) []) ≡ play_events p script (take (n + 1) fs) []
+module _ (p : Plant) (script : List TimedAct) (fs : List Frame) where
+  pub cycle_is : (n : ℕ) (f : Frame) → slice_get fs n ≡ Some f → cycle_events p script f (play_events p script (take n fs) []) ≡ play_events p script (take (n + 1) fs) []
   cycle_is n f at = sym (ap (λ (l : List Frame). play_events p script l []) (take_next fs n f at) ∙ played_next p script (take n fs) f [])
 
+module _ (law : FreshIsReference) (p : Plant) (script : List TimedAct) (fs : List Frame) where
   given_in : (n k : ℕ) (f : Frame) → k < voters p → slice_get fs n ≡ Some f
       → given_ballot k (history p (play_events p script (take (n + 1) fs) [])) ≡ Some (ballot k (history p (play_events p script (take (n + 1) fs) [])))
   given_in n k f lt at =
       let before = events_of_acts p f.cycle (acts_at f.cycle script) (Wire f ∷ play_events p script (take n fs) []) in
       subst (λ (l : List Event). given_ballot k (history p l) ≡ Some (ballot k (history p l)))
-      (cycled_is p script f (play_events p script (take n fs) []) ∙ cycle_is n f at)
+      (cycled_is p script f (play_events p script (take n fs) []) ∙ cycle_is p script fs n f at)
       (given_voted p (voters p) k before lt)
 
   pub fresh_forces : FreshForcesAreReference p script fs (blocks p script fs [])
   fresh_forces n k b f one at fresh =
       let c = found p script fs [] n b at in
       let es = play_events p script (take (n + 1) fs) [] in
-      let is : b ≡ block_of p c.frame.cycle es = c.is ∙ ap (λ (l : List Event). block_of p c.frame.cycle l) (cycle_is n c.frame c.at) in
+      let is : b ≡ block_of p c.frame.cycle es = c.is ∙ ap (λ (l : List Event). block_of p c.frame.cycle l) (cycle_is p script fs n c.frame c.at) in
       let b_at = ballot_at (voters p) c.frame.cycle k (history p es) (Fresh f) (subst (λ (x : Block). slice_get x.ballots.items k ≡ Some (Fresh f)) is fresh) in
       let told : given_ballot k (history p es) ≡ Some (Fresh f) = given_in n k c.frame b_at.0 c.at ∙ ap Some b_at.1 in
       let began : cycles_begun (history p es) - 1 ≡ n =

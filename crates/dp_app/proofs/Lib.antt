@@ -11,6 +11,7 @@ pub mod Votes
 pub mod PlayedFrames
 pub mod Blocks
 pub mod FreshForces
+mod OwnTaken
 pub mod BoundedForces
 pub mod AcceptedTasks
 pub mod Playing
@@ -26,3 +27,5 @@ pub mod Results
 pub mod Outcomes
 pub mod Endings
 pub mod ReadStops
+pub mod WholeRuns
+pub mod MadeRecords

@@ -130,7 +130,7 @@ read_alone bs PlantFile old new h = h
 read_alone bs Script old new h = h
 
 module _ (failed : File → Type 0) (bs : List Block) (text : List ℕ) (old new : Option (List ℕ)) (s : Status) where
-  given_line : (fault : Fault) → IsOfInputs (fault_status fault) → LineEnds (fault_status fault) (fault_line fault) old new s → HasWritten failed bs (fault_line fault) s old new
+  pub given_line : (fault : Fault) → IsOfInputs (fault_status fault) → LineEnds (fault_status fault) (fault_line fault) old new s → HasWritten failed bs (fault_line fault) s old new
   given_line fault is (inl (e, h)) =
       subst (λ (t : Status). HasWritten failed bs (fault_line fault) t old new) (sym e) (written_inputs failed bs (fault_line fault) old new (fault_status fault) is h)
   given_line fault is (inr (inl (e, h))) = subst (λ (t : Status). HasWritten failed bs (fault_line fault) t old new) (sym e) (inl h)
@@ -141,7 +141,7 @@ module _ (failed : File → Type 0) (bs : List Block) (text : List ℕ) (old new
   read_line file why (inr (inl (e, h))) = subst (λ (t : Status). HasWritten failed bs text t old new) (sym e) (inr (Read file, why, line_cut old new text (fault_line (Read file)) h))
   read_line file why (inr (inr (e, h))) = subst (λ (t : Status). HasWritten failed bs text t old new) (sym e) (inr (inl (Read file, why, line_cut old new text (fault_line (Read file)) h)))
 
-  memory_line : LineEnds status.Memory (fault_line Memory) old new s → HasWritten failed bs text s old new
+  pub memory_line : LineEnds status.Memory (fault_line Memory) old new s → HasWritten failed bs text s old new
   memory_line (inl (e, h)) = subst (λ (t : Status). HasWritten failed bs text t old new) (sym e) (inr (inr (line_whole old new text (fault_line Memory) h)))
   memory_line (inr (inl (e, h))) = subst (λ (t : Status). HasWritten failed bs text t old new) (sym e) (inr (Memory, tt, line_cut old new text (fault_line Memory) h))
   memory_line (inr (inr (e, h))) = subst (λ (t : Status). HasWritten failed bs text t old new) (sym e) (inr (inl (Memory, tt, line_cut old new text (fault_line Memory) h)))

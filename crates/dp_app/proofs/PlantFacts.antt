@@ -10,6 +10,9 @@ use Rattle.dp_frame.specs.Represents.{settings_of}
 pub some_cycle : (p : Plant) → 0 < (settings_of p).cycle_ms
 some_cycle p = let w = plant_within p in omega (arith, w.cycle_low)
 
+pub slow_cycle : (p : Plant) → 100 ≤ (settings_of p).cycle_ms
+slow_cycle p = (plant_within p).cycle_low
+
 pub few_groups : (p : Plant) → p.groups ≤ 8
 few_groups p = (plant_within p).groups_high
 

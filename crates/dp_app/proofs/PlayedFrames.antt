@@ -6,13 +6,16 @@ use Rattle.dp_plant.specs.declared.plant.Plant.{Plant}
 use Rattle.dp_core.specs.declared.event.Event.{Event}
 use Rattle.dp_core.specs.declared.event.Event.TheVariants as event
 use Rattle.dp_core.specs.History.{history}
-use Rattle.dp_core.specs.Mode.{cycles_begun, frames}
-use Rattle.dp_core.proofs.HistoryLemmas.{frames-order, frames-run, frames-say, frames-skew, frames-stop, frames-vote, frames-wire}
+use Rattle.dp_core.specs.Mode.{cycles_begun, frames, mode}
+use Rattle.dp_core.specs.Shown.{spelling_at}
+use Rattle.dp_exchange.specs.ComputerState.{is_live}
+use Rattle.dp_plant.specs.declared.place.Place.{Place}
+use Rattle.dp_core.proofs.HistoryLemmas.{frames-lie, frames-order, frames-restart, frames-run, frames-say, frames-skew, frames-stop, frames-tell, frames-upgrade, frames-vote, frames-wire}
 use Rattle.dp_script.specs.declared.act.Act.{Act}
-use Rattle.dp_script.specs.declared.act.Act.TheVariants.{Run, Order, Orders, Skew, Say, Stop}
+use Rattle.dp_script.specs.declared.act.Act.TheVariants.{Run, Order, Orders, Tell, Skew, Say, Lie, Junk, Stop, Restart, Upgrade}
 use Rattle.dp_script.specs.declared.timed_act.TimedAct.{TimedAct}
 use Rattle.dp_script.specs.TimedActs.{acts_at}
-use Rattle.dp_app.specs.Acting.{act_events, cycle_events, events_of_acts, order_events, play_events, vote_events, voters}
+use Rattle.dp_app.specs.Acting.{act_events, cycle_events, events_of_acts, lie_events, order_events, place_of, play_events, vote_events, voters}
 
 frames_ordered : (p : Plant) (c n : ℕ) (es : List Event) → frames (history p (order_events c n es)) ≡ frames (history p es)
 unfolding order_events
@@ -29,14 +32,25 @@ frames_if : (p : Plant) (b : Bool) (e : Event) (es : List Event) → frames (his
 frames_if p true e es same = same
 frames_if p false e es same = refl
 
+frames_lied : (p : Plant) (a b : ℕ) (at : Place) (es : List Event) → frames (history p (lie_events p a b at es)) ≡ frames (history p es)
+unfolding lie_events
+frames_lied p a b at es =
+    frames_if p (is_live (mode a (history p es))) (event.Lie a b (record { items = spelling_at p a (history p es) at })) es
+    (frames-lie p a b (record { items = spelling_at p a (history p es) at }) es)
+
 frames_acted : (p : Plant) (cycle : ℕ) (act : Act) (es : List Event) → frames (history p (act_events p cycle act es)) ≡ frames (history p es)
 unfolding act_events
 frames_acted p cycle (Run c) es = frames-run p c es
 frames_acted p cycle (Order c k) es = frames_if p (nat_lt k (voters p)) (event.Order c k) es (frames-order p c k es)
 frames_acted p cycle (Orders c) es = frames_ordered p c (voters p) es
-frames_acted p cycle (Skew c at) es = frames-skew p c (record { north = at.0; east = at.1 }) es
+frames_acted p cycle (Tell a b) es = frames-tell p a b es
+frames_acted p cycle (Skew c at) es = frames-skew p c (place_of at) es
 frames_acted p cycle (Say c k force) es = frames_if p (nat_lt k (voters p)) (event.Say c k cycle force) es (frames-say p c k cycle force es)
+frames_acted p cycle (Lie a b at) es = frames_lied p a b (place_of at) es
+frames_acted p cycle (Junk a b bytes) es = frames-lie p a b (record { items = bytes.items }) es
 frames_acted p cycle (Stop c) es = frames-stop p c es
+frames_acted p cycle (Restart c) es = frames-restart p c es
+frames_acted p cycle (Upgrade c) es = frames-upgrade p c es
 
 frames_all : (p : Plant) (cycle : ℕ) (acts : List Act) (es : List Event) → frames (history p (events_of_acts p cycle acts es)) ≡ frames (history p es)
 unfolding events_of_acts

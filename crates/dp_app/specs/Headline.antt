@@ -1,10 +1,11 @@
 -- The headline: what is told of each cycle's forces.
-use Rattle.std.specs.Prelude.{◌≡◌, ◌+◌, ℕ, ℤ, pos, ◌≤ℤ◌, List, [], take, Some, Result, Ok, Err, slice_get}
+use Rattle.std.specs.Prelude.{◌≡◌, ◌+◌, ℕ, ℤ, pos, ◌≤ℤ◌, false, List, [], take, Option, Some, Result, Ok, Err, slice_get}
 use Rattle.dp_plant.specs.declared.frames.Frame.{Frame}
 use Rattle.dp_plant.specs.declared.plant.Plant.{Plant}
 use Rattle.dp_plant.specs.declared.voting.Ballot.TheVariants.{Fresh}
 use Rattle.dp_core.specs.Faulty.{AtMostOneFaulty}
 use Rattle.dp_core.specs.History.{history}
+use Rattle.dp_core.specs.OwnForce.{IsOwnForce, is_said}
 use Rattle.dp_cert.specs.declared.accepted.Accepted.{Accepted}
 use Rattle.dp_machine.specs.Accepted.{IsAcceptedPlant}
 use Rattle.dp_machine.specs.Reference.{force_of}
@@ -35,6 +36,27 @@ TellsReferenceForces (Ok (to_trial x)) = FreshForcesAreReference x.plant x.scrip
 TellsReferenceForces (Ok (to_check p)) = Unit {0}
 TellsReferenceForces (Ok (to_make number)) = Unit {0}
 TellsReferenceForces (Err fault) = Unit {0}
+
+-- ---- and whose they are
+-- each force that the block of cycle n says was taken of a computer is one that this computer's own
+-- trajectory issued for the cycle, where none was said in its name to this voter; so it is after a
+-- skew
+abbrev pub TakenForcesAreOwn : Plant → List TimedAct → List Frame → List Block → Type 0
+TakenForcesAreOwn p script fs bs = (n k a : ℕ) (b : Block) (orders : List (Option ℤ)) (f : ℤ)
+    → is_said k a (history p (play_events p script (take (n + 1) fs) [])) ≡ false
+    → slice_get bs n ≡ Some b → slice_get b.held.items k ≡ Some orders
+    → slice_get orders a ≡ Some (Some f)
+    → IsOwnForce p k a (play_events p script (take (n + 1) fs) []) f
+
+-- of what is played, if anything is
+abbrev pub TellsOwnForces : Result Task Fault → Type 0
+TellsOwnForces (Ok (to_replay x)) = TakenForcesAreOwn x.plant x.script x.frames
+    (blocks x.plant x.script x.frames [])
+TellsOwnForces (Ok (to_trial x)) = TakenForcesAreOwn x.plant x.script x.frames
+    (blocks x.plant x.script x.frames [])
+TellsOwnForces (Ok (to_check p)) = Unit {0}
+TellsOwnForces (Ok (to_make number)) = Unit {0}
+TellsOwnForces (Err fault) = Unit {0}
 
 -- ---- and how far one bad position reference can move them
 -- the frames up to n are those of another record, but for what one position reference told; the

@@ -19,6 +19,7 @@ pub mod Given
 pub mod Causes
 pub mod Headline
 pub mod Written
+pub mod Complete
 -- what contracts cite
 
 pub use Rattle.dp_app.specs.Status.{code_of}
@@ -28,7 +29,7 @@ pub use Rattle.dp_app.specs.Files.{limit_of, prefix_of}
 pub use Rattle.dp_app.specs.PlantFiles.{IsPlantOf, IsPlantRefusal, IsRefusedWithin, data_of, data_within, document_of, file_fault, gains_fault, plant_fault}
 pub use Rattle.dp_app.specs.Endings.{end_line}
 pub use Rattle.dp_app.specs.Check.{check_text}
-pub use Rattle.dp_app.specs.Acting.{act_events, events_of_acts, cycle_events, order_events, vote_events, voters}
+pub use Rattle.dp_app.specs.Acting.{act_events, events_of_acts, cycle_events, lie_events, order_events, vote_events, voters}
 pub use Rattle.dp_app.specs.Blocks.{block_of}
 pub use Rattle.dp_app.specs.ReaderAnswers.{IsNext, fault_in}
 pub use Rattle.dp_app.specs.Tally.{IsEmptyTally, IsTallyWithin, count_line, summary_text, tally_of}
@@ -38,5 +39,6 @@ pub use Rattle.dp_app.specs.Prefixes.{prefix_read}
 pub use Rattle.dp_app.specs.Streaming.{task_of_player}
 pub use Rattle.dp_app.specs.Given.{HasAcceptedPlant, IsReady, IsScriptRefusal, LeavesRecord, PlaysScript, task_of}
 pub use Rattle.dp_app.specs.Causes.{AnyRose, OthersKeep, ReadFailed, RecordFailed, RoseAt}
-pub use Rattle.dp_app.specs.Headline.{IsOnAcceptedPlant, TellsBoundedForces, TellsReferenceForces}
+pub use Rattle.dp_app.specs.Complete.{AsksNoFile, GivesNoFile, IsUnrefused, IsWholeOrMemory}
+pub use Rattle.dp_app.specs.Headline.{IsOnAcceptedPlant, TellsBoundedForces, TellsOwnForces, TellsReferenceForces}
 pub use Rattle.dp_app.specs.Written.{EndsAtRead, HasWritten, IsAnnounced, LineEnds, NoReadFailed}

@@ -1,29 +1,33 @@
 //! The acts of a cycle, done on the world.
-ghost use Rattle.std.specs.Prelude.{◌≡◌, ◌<◌, ◌≤◌, List};
+ghost use Rattle.std.specs.Prelude.{◌≡◌, ◌≢◌, ◌<◌, ◌≤◌, ◌^◌, List};
 ghost use Rattle.dp_core.specs.declared.event.Event.{Event};
 ghost use Rattle.dp_core.specs.Represents.{Represents};
 ghost use Rattle.dp_script.specs.{IsWithin, acts_at};
-ghost use Rattle.dp_app.specs.{act_events, events_of_acts, order_events, voters};
+ghost use Rattle.dp_app.specs.{act_events, events_of_acts, lie_events, order_events, voters};
 
+use arrayvec::ArrayVec;
 use dp_core::World;
 use dp_plant::{Place, Plant};
 use dp_script::{Act, Script};
 
+/// Room for what a computer offers another, which holds nothing between two acts.
+pub type Text = ArrayVec<u8, 4096>;
+
 /// The script's acts of a cycle are done, one after another.
-pub fn perform_all(world: &mut World, plant: &Plant, script: &Script, cycle: u64)
+pub fn perform_all(world: &mut World, plant: &Plant, script: &Script, cycle: u64, text: &mut Text)
     requires { world.old.plant ≡ plant.now }
     ensures represents { (es : List Event) → Represents es world.old
         → Represents (events_of_acts plant.now cycle (acts_at cycle script.now) es) world.new }
     ensures plant { world.new.plant ≡ plant.now }
 {
     for i in 0..script.len(cycle) {
-        perform(world, plant, cycle, script.act(cycle, i));
+        perform(world, plant, cycle, script.act(cycle, i), text);
     }
 }
 
 /// An act is done in this cycle; one on a voter that isn't there does nothing.
 #[tactic(auto, unfolding(crate::specs::Acting::act_events))]
-fn perform(world: &mut World, plant: &Plant, cycle: u64, act: Act)
+fn perform(world: &mut World, plant: &Plant, cycle: u64, act: Act, text: &mut Text)
     requires plant { world.old.plant ≡ plant.now }
     requires within { IsWithin act }
     ensures represents { (es : List Event) → Represents es world.old
@@ -40,6 +44,9 @@ fn perform(world: &mut World, plant: &Plant, cycle: u64, act: Act)
             }
         }
         Act::Orders { c } => order_all(world, plant, c),
+        Act::Tell { a, b } => {
+            world.tell(a, b);
+        }
         Act::Skew { c, at } => {
             let (north, east) = at;
             world.skew(c, Place { north, east });
@@ -49,9 +56,37 @@ fn perform(world: &mut World, plant: &Plant, cycle: u64, act: Act)
                 world.say(c, k, cycle, force);
             }
         }
+        Act::Lie { a, b, at } => {
+            let (north, east) = at;
+            lie(world, a, b, Place { north, east }, text);
+        }
+        Act::Junk { a, b, bytes } => {
+            world.lie(a, b, bytes.as_slice());
+        }
         Act::Stop { c } => {
             world.stop(c);
         }
+        Act::Restart { c } => {
+            world.restart(c);
+        }
+        Act::Upgrade { c } => {
+            world.upgrade(c);
+        }
+    }
+}
+
+/// A live computer offers another its state at rest at a place; where it isn't live, nothing happens.
+#[tactic(auto, unfolding(crate::specs::Acting::lie_events))]
+fn lie(world: &mut World, a: u8, b: u8, at: Place, text: &mut Text)
+    requires first { a < 3 }
+    requires second { b < 3 }
+    requires two { a ≢ b }
+    ensures represents { (es : List Event) → Represents es world.old
+        → Represents (lie_events world.old.plant a b at es) world.new }
+    ensures plant { world.new.plant ≡ world.old.plant }
+{
+    if world.spell_at(a, at, text) {
+        world.lie(a, b, text.as_slice());
     }
 }
 

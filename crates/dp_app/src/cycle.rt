@@ -9,7 +9,7 @@ ghost use Rattle.dp_plant.specs.{IsFrameInRange};
 ghost use Rattle.dp_report.specs.{block_text};
 ghost use Rattle.dp_app.specs.{block_of, cycle_events, vote_events, voters};
 
-use crate::acting::{perform_all, voters_of};
+use crate::acting::{Text, perform_all, voters_of};
 use arrayvec::ArrayVec;
 use dp_core::World;
 use dp_plant::{Ballot, Frame, Plant};
@@ -34,7 +34,7 @@ pub fn cycle(
         (cycle_events plant.now script.now frame.now es)) }
     ensures plant { world.new.plant ≡ plant.now }
 {
-    let ballots = play_votes(world, plant, script, frame);
+    let ballots = play_votes(world, plant, script, frame, into);
     let block = Block {
         cycle: frame.cycle,
         modes: world.modes(),
@@ -45,12 +45,13 @@ pub fn cycle(
     write_block(&block, into);
 }
 
-/// A cycle without its text: its frame is heard by all computers, the script's acts of it are done, and each voter votes.
+/// A cycle without its text: its frame is heard by all computers, the script's acts of it are done, and each voter votes. `text` gives room.
 pub fn play_votes(
     world: &mut World,
     plant: &Plant,
     script: &Script,
     frame: &Frame,
+    text: &mut Text,
 ) -> ArrayVec<Ballot, 12>
     requires next { frame.now.cycle ≡ world.old.cycles_begun }
     requires within { IsFrameInRange plant.now.groups frame.now }
@@ -64,7 +65,7 @@ pub fn play_votes(
     ensures plant { world.new.plant ≡ plant.now }
 {
     world.wire(frame);
-    perform_all(world, plant, script, frame.cycle);
+    perform_all(world, plant, script, frame.cycle, text);
     vote_all(world, plant)
 }
 

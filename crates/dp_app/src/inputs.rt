@@ -1,11 +1,12 @@
 //! What a command is given: its plant, and for a replay its script. The record is read while it is played.
-ghost use Rattle.std.specs.Prelude.{◌≡◌, ◌≢◌, ◌⊎◌, [], true, false, is_none, Some, IfErr, IfOk, IfSome, IsErrAnd, IsErrOf, IsNone, None, Err};
+ghost use Rattle.std.specs.Prelude.{◌≡◌, ◌≢◌, ◌⊎◌, [], true, false, is_none, Some, IfErr, IfOk, IfSome, IsErrAnd, IsErrOf, IsNone, None, Err, Result};
 ghost use Rattle.dp_shell.specs.{NoneFalls, OthersStay, texts_of, text_named};
 ghost use Rattle.dp_core.specs.Represents.{Represents};
 ghost use Rattle.dp_machine.specs.{IsAcceptedPlant};
+ghost use Rattle.dp_app.specs.declared.fault.Fault.{Fault as FaultKind};
 ghost use Rattle.dp_app.specs.declared.fault.File.{File as FileKind};
-ghost use Rattle.dp_app.specs.{Asks, HasAcceptedPlant, HasPlayed, IsEmptyTally, IsOfInputs, IsReady, IsScriptRefusal, LeavesRecord, OthersKeep, PlaysScript, ReadFailed, RoseAt};
-ghost use Rattle.dp_app.specs.{task_of, check, trial, whole, command_in, fault_status, files_of, files_read, replay};
+ghost use Rattle.dp_app.specs.{Asks, AsksNoFile, GivesNoFile, HasAcceptedPlant, HasPlayed, IsEmptyTally, IsOfInputs, IsReady, IsScriptRefusal, LeavesRecord, OthersKeep, PlaysScript, ReadFailed, RoseAt};
+ghost use Rattle.dp_app.specs.{Task as Asked, task_of, check, trial, whole, command_in, fault_status, files_of, files_read, replay};
 ghost use Rattle.dp_app.specs.{prefix_read, script_fault_of, script_of, shown_command};
 
 use crate::command_line::WordsFault;
@@ -68,6 +69,10 @@ pub fn gather<'a, F: Shelf>(
     ensures no_command { IsNone (command_in (texts_of words.now))
         → IsErrAnd result (λ fault. (fault ≡ Fault.Usage) ⊎ (fault ≡ Fault.Memory)) }
 
+    // What is asked for without a file is given, whatever the shelf tells.
+    ensures unread { (x : Result Asked FaultKind) → AsksNoFile (command_in (texts_of words.now)) x
+        → GivesNoFile result x }
+
     // A fault of reading comes only where it was counted under the file's name, after all before it had passed.
     ensures read { (file : FileKind) → IsErrOf result (Fault.Read file)
         → ReadFailed (F.files shelf.old)
@@ -103,6 +108,8 @@ fn gather_files<'a, F: Shelf>(
         → IfSome (F.files shelf.old) (λ files.
         Asks (Some (shown_command command.now)) files (Err fault))) }
     ensures command { IfErr result (λ fault. fault ≢ Fault.Usage) }
+    ensures unread { (x : Result Asked FaultKind)
+        → AsksNoFile (Some (shown_command command.now)) x → GivesNoFile result x }
     ensures read { (file : FileKind) → IsErrOf result (Fault.Read file)
         → ReadFailed (F.files shelf.old)
         (F.faults shelf.old) (F.faults shelf.new) (files_of (shown_command command.now)) file }

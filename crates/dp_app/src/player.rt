@@ -147,7 +147,13 @@ impl Player {
         ensures plant { self.new.plant ≡ self.old.plant }
         ensures count { self.new.count ≡ self.old.count + 1 }
     {
-        let ballots = play_votes(&mut self.world, &self.plant, &self.script, frame);
+        let ballots = play_votes(
+            &mut self.world,
+            &self.plant,
+            &self.script,
+            frame,
+            &mut self.block,
+        );
         self.count += 1;
         self.tally = Some(tally.with(&ballots));
     }

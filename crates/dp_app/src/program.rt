@@ -1,8 +1,8 @@
 //! The top call: all that the program does.
-ghost use Rattle.std.specs.Prelude.{◌≡◌, ◌⊎◌, IfSome, IsNone, Result};
+ghost use Rattle.std.specs.Prelude.{◌≡◌, ◌⊎◌, [], IfSome, IsNone, Result};
 ghost use Rattle.dp_shell.specs.{Rose, texts_of};
-ghost use Rattle.dp_app.specs.{AnyRose, Asks, EndsAtRead, HasWritten, IsAnnounced, IsOfInputs, OthersKeep, ReadFailed};
-ghost use Rattle.dp_app.specs.{IsOnAcceptedPlant, Task as Asked, TellsBoundedForces, TellsReferenceForces, blocks_in, command_in, files_read, outcome_of};
+ghost use Rattle.dp_app.specs.{AnyRose, Asks, AsksNoFile, EndsAtRead, HasWritten, IsAnnounced, IsOfInputs, IsUnrefused, IsWholeOrMemory, NoReadFailed, OthersKeep, ReadFailed};
+ghost use Rattle.dp_app.specs.{IsOnAcceptedPlant, Task as Asked, TellsBoundedForces, TellsOwnForces, TellsReferenceForces, blocks_in, command_in, files_read, outcome_of};
 ghost use Rattle.dp_app.specs.declared.fault.Fault.{Fault};
 ghost use Rattle.dp_app.specs.declared.fault.File.{File};
 
@@ -10,7 +10,7 @@ use crate::Status;
 use crate::check::check;
 use crate::ending::announce;
 use crate::inputs::{Task, gather};
-use crate::laws::{fresh_forces_are_bounded, fresh_forces_are_reference};
+use crate::laws::{fresh_forces_are_bounded, fresh_forces_are_reference, taken_forces_are_own};
 use crate::making::make;
 use crate::replay::replay;
 use crate::trial::trial;
@@ -46,7 +46,13 @@ pub fn run<F: Shelf, K: Sink>(alloc: Global, words: &[&str], shelf: &mut F, out:
         (x : Result Asked Fault) → Asks (command_in (texts_of words.now)) files x
         → TellsReferenceForces x) }
 
-    // And on an accepted plant it is within the bound of the reference run of any other record that differs in what one
+    // Whatever is faulty, each force that a voter took of a computer in whose name none was said to it is of that computer's own
+    // trajectory.
+    ensures own { IfSome (F.files shelf.old) (λ files.
+        (x : Result Asked Fault) → Asks (command_in (texts_of words.now)) files x
+        → TellsOwnForces x) }
+
+    // And on an accepted plant a fresh one is within the bound of the reference run of any other record that differs in what one
     // position reference tells; the numbers of a check are such bounds.
     ensures bounded { IfSome (F.files shelf.old) (λ files.
         (x : Result Asked Fault) → Asks (command_in (texts_of words.now)) files x
@@ -77,12 +83,30 @@ pub fn run<F: Shelf, K: Sink>(alloc: Global, words: &[&str], shelf: &mut F, out:
         → (Rose (K.faults out.old) (K.faults out.new) → ⊥) → IsOfInputs result
         ⊎ (result ≡ Status.Memory) }
 
-    // The files stay, and no other name is read; where the words are no command, none.
+    // So where nothing of the words and files is refused and no fault is counted, the status is Ok and the whole text was
+    // taken, unless memory is wanted.
+    ensures complete_text { IfSome (F.files shelf.old) (λ files.
+        (x : Result Asked Fault) → Asks (command_in (texts_of words.now)) files x
+        → IsUnrefused x
+        → (AnyRose (files_read (command_in (texts_of words.now))) (F.faults shelf.old)
+        (F.faults shelf.new) → ⊥)
+        → (Rose (K.faults out.old) (K.faults out.new) → ⊥)
+        → IsWholeOrMemory (outcome_of x) result (K.taken out.old) (K.taken out.new)) }
+
+    // Where no file is read, status and text are the outcome's whatever the shelf tells.
+    ensures unread { (x : Result Asked Fault) → AsksNoFile (command_in (texts_of words.now)) x
+        → (IsOfInputs result → result ≡ (outcome_of x).status)
+        × HasWritten NoReadFailed [] (outcome_of x).text result (K.taken out.old)
+        (K.taken out.new) }
+
+    // Of the shelf only counts change: files and names stay, and no other name is read; where the words are no command, none.
     ensures files { F.files shelf.new ≡ F.files shelf.old }
+    ensures apart { F.apart shelf.new ≡ F.apart shelf.old }
     ensures others { OthersKeep (F.apart shelf.old) (files_read (command_in (texts_of words.now)))
         (F.faults shelf.old) (F.faults shelf.new) }
 {
     fresh_forces_are_reference();
+    taken_forces_are_own();
     fresh_forces_are_bounded();
     match gather(alloc, &*words, shelf) {
         Ok(Task::Replay(mut inputs)) => {

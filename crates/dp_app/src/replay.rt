@@ -38,6 +38,7 @@ pub fn replay<F: Shelf, K: Sink>(
     ensures write { result ≡ Status.WriteFault → Rose (K.faults out.old) (K.faults out.new) }
     ensures usage { result ≢ Status.Usage }
     ensures files { F.files shelf.new ≡ F.files shelf.old }
+    ensures apart { F.apart shelf.new ≡ F.apart shelf.old }
     ensures others { OthersStay (F.apart shelf.old) record_name.now (F.faults shelf.old)
         (F.faults shelf.new) }
     ensures none_falls { NoneFalls (F.faults shelf.old) (F.faults shelf.new) }

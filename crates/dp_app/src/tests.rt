@@ -4,6 +4,7 @@ use dp_shell::{MemoryShelf, MemorySink, fits_shelf};
 use std::process::Abort;
 use std::test::Fail;
 
+mod hostile;
 mod plants;
 mod readings;
 mod refusals;
@@ -344,22 +345,6 @@ fn failures_are_told(rt: HostRuntime) -> Result<(), Fail> {
 /// The number that a digit writes.
 fn number(text: &str) -> u64 {
     text.parse().unwrap_or(0)
-}
-
-/// Records that are read in many pieces: so many lines of one cycle.
-#[test]
-fn long_records_are_played(rt: HostRuntime) -> Result<(), Fail> {
-    let alloc = rt.alloc();
-    for lines in [5_000, 100_000] {
-        let mut record = Vec::new(alloc);
-        for _ in 0..lines {
-            record.extend_from_slice(b"0 pos0 L 1000 0\n")?;
-        }
-        let seen = with_failing(&rt, alloc, 0, 0, b"", &record)?;
-        let wanted = "0~cycle 0 LLL\nt0 F 0 0 0 0\nt1 F 0 0 0 0\nt2 F 0 0 0 0\nend 1\n";
-        assert_eq!(rt; seen.as_str(), wanted, "{lines} lines");
-    }
-    Ok(())
 }
 
 /// The exit code of each ending.

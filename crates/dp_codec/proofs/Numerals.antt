@@ -7,7 +7,7 @@ use Rattle.std.proofs.lemmas.Bool.{ltb-false, le-ltb, and_parts}
 use Rattle.std.proofs.lemmas.Int.{ints, to_z-of_z, of_z-to_z}
 use Rattle.std.proofs.lemmas.List.{take_at, drop_at, take-append-drop, length-append, length-take}
 use Rattle.std.proofs.lemmas.Nat.{be_bytes_4, be_bytes_8, from_be_bytes-to_be_bytes_4, from_be_bytes-to_be_bytes_8}
-use Rattle.dp_codec.specs.Format.{◌>>=◌, times, times_at}
+use Rattle.dp_codec.specs.Format.{◌>>=◌, Read, times, times_at}
 use Rattle.dp_codec.specs.Numbers.{signed, signed_at, signed_text, unsigned, unsigned_at, unsigned_text}
 use Rattle.dp_codec.proofs.Fields.{IsBytes, IsBytes-drop, IsBytes-take, Takes, Takes-then, bind_ok, ok_is, Field}
 
@@ -106,6 +106,20 @@ pub unsigned_again : (w : Width) (limit : ℕ) (wide : IsWide w limit) (lo end :
 unfolding unsigned_text
 unsigned_again w limit wide lo end n rest fits =
     unsigned_on w lo end (to_be_bytes w n ++ rest) n rest (front_again w limit wide n rest fits.1) (grind (arith, fits.0.0)) (grind (arith, fits.0.1))
+
+-- a number that was written, and is past the end, is refused at its first byte
+unsigned_past : (w : Width) (lo end : ℕ) (bytes : List ℕ) (n : ℕ) (rest : List ℕ) → IsFront w bytes n rest → nat_lt n end ≡ false → unsigned_at w lo end bytes ≡ Err (length bytes)
+unfolding unsigned_at
+unsigned_past w lo end bytes n rest front b = rw (front.long, front.number, front.after, b) (refused (nat_le lo n))
+  where
+    refused : (a : Bool) → cond {A = Read ℕ} (a && false) (Ok (n, rest)) (Err (length bytes)) ≡ Err (length bytes)
+    refused true = refl
+    refused false = refl
+
+pub unsigned_refused : (w : Width) (limit : ℕ) (wide : IsWide w limit) (lo end : ℕ) (n : ℕ) (rest : List ℕ) → end ≤ n → n < limit → unsigned_at w lo end (unsigned_text w n ++ rest) ≡ Err (length (unsigned_text w n ++ rest))
+unfolding unsigned_text
+unsigned_refused w limit wide lo end n rest past small =
+    unsigned_past w lo end (to_be_bytes w n ++ rest) n rest (front_again w limit wide n rest small) (grind (arith, past))
 
 abbrev pub unsigned_field : (w : Width) (limit : ℕ) (wide : IsWide w limit) (lo end : ℕ) → Field ℕ
 unsigned_field w limit wide lo end = record {

@@ -12,7 +12,7 @@ use Rattle.dp_codec.specs.Numbers.{unsigned_at, unsigned_text}
 use Rattle.dp_codec.specs.Parts.{state_parts}
 use Rattle.dp_codec.specs.Spelling.{IsPlantState, IsSoftware, IsSpelled, all_of, length_at, length_text, mark_of, spelling_of, state_read}
 use Rattle.dp_codec.proofs.Fields.{IsBytes, bind_ok, ok_is}
-use Rattle.dp_codec.proofs.Numerals.{unsigned_again, unsigned_takes, wide32}
+use Rattle.dp_codec.proofs.Numerals.{unsigned_again, unsigned_refused, unsigned_takes, wide32}
 use Rattle.dp_codec.proofs.Lengths.{length-w32, samples_in, state_short}
 use Rattle.dp_codec.proofs.StateFields.{state_field}
 use Rattle.dp_codec.proofs.StateRanges.{state_from, state_to, window_small}
@@ -144,3 +144,22 @@ keep_apart p law version s t sw h k e =
     let low : 1 ≤ version = elim sw [ inl f ↦ omega (arith, f) | inr f ↦ omega (arith, f) ] in
     let high : version ≤ version = omega arith in
     ok_is s t (sym (all_again p version version s sw low high law h) ∙ ap (all_of p version) e ∙ all_again p version version t sw low high law k)
+
+all_unknown : (p : Plant) (s : State) → all_of p 1 (spelling_of p 2 s) ≡ Err (length (spelling_of p 2 s))
+unfolding all_of spelling_of
+all_unknown p s =
+    let text = (state_parts p 2).spell s in
+    let more = length_text 2 text ++ text in
+    let mark : unsigned_at w32 (mark_of 1) (mark_of 1 + 1) (unsigned_text w32 (mark_of 2) ++ more) ≡ Err (length (unsigned_text w32 (mark_of 2) ++ more)) =
+    unsigned_refused w32 (2 ^ 32) wide32 (mark_of 1) (mark_of 1 + 1) (mark_of 2) more (omega arith) (omega arith) in
+    let rest_of = λ (v : ℕ) (b : List ℕ). (state_parts p v).read b >>= λ x. cond (eqb (length x.1) 0) (Ok x.0) (Err (length x.1)) in
+    ap (λ (r : Read ℕ). r >>= λ m. length_at (m.0 - mark_of 0) m.1 >>= λ w. rest_of (m.0 - mark_of 0) w.1) mark
+
+pub second_is_unknown : (p : Plant) (s : State) → state_read p 1 (spelling_of p 2 s) ≡ Err 0
+second_is_unknown p s =
+    let n = length (spelling_of p 2 s) in
+    let none : n - n ≡ 0 = omega arith in
+    state_err p 1 (spelling_of p 2 s) n (all_unknown p s) ∙ ap placed_at none
+  where
+    placed_at : ℕ → Result State ℕ
+    placed_at n = Err n

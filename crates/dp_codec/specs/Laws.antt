@@ -1,5 +1,5 @@
 -- What reading and writing have to do with each other.
-use Rattle.std.specs.Prelude.{◌≡◌, ◌<◌, ◌≤◌, ℕ, List, All, Ok, codes}
+use Rattle.std.specs.Prelude.{◌≡◌, ◌<◌, ◌≤◌, ℕ, List, All, Ok, Err, codes}
 use Rattle.std.specs.Int.{w32}
 use Rattle.dp_plant.specs.declared.plant.Plant.{Plant}
 use Rattle.dp_machine.specs.declared.state.State.{State}
@@ -28,3 +28,7 @@ abbrev pub SpellingsKeepApart : Plant → Type 0
 SpellingsKeepApart p =
     (version : ℕ) (s t : State) → IsSoftware version → IsPlantState p s → IsPlantState p t
     → spelling_of p version s ≡ spelling_of p version t → s ≡ t
+
+-- software 1 knows only spelling 1: what is written in spelling 2 is wrong at its mark
+abbrev pub SecondIsUnknownToFirst : Type 0
+SecondIsUnknownToFirst = (p : Plant) (s : State) → state_read p 1 (spelling_of p 2 s) ≡ Err 0

@@ -1,6 +1,6 @@
 //! What reading and writing have to do with each other: each law is the contract of a function that does nothing. The definitions are in
 //! `specs/Laws`.
-ghost use Rattle.dp_codec.specs.{AreMarks, ReadIsWritten, SpellingsKeepApart, WrittenIsRead};
+ghost use Rattle.dp_codec.specs.{AreMarks, ReadIsWritten, SecondIsUnknownToFirst, SpellingsKeepApart, WrittenIsRead};
 
 use dp_machine::Machine;
 
@@ -27,3 +27,8 @@ pub fn spellings_keep_apart(m: &Machine)
 {
     m.inside_is_within();
 }
+
+/// Software 1 knows only spelling 1: what is written in spelling 2 is wrong at its first byte.
+pub fn second_is_unknown_to_first()
+    ensures { SecondIsUnknownToFirst }
+{}

@@ -104,7 +104,8 @@ fn wave_limit(m: &Machine) -> i64
 /// A plane state that is in the certified set.
 #[tactic(auto, unfolding(crate::specs::Parts::inside_parts))]
 fn inside_of<'a>(m: &Machine, version: u32, bytes: &'a [u8]) -> Result<(PlaneState, &'a [u8]), Left>
-    ensures { Gives (λ x. (x.0, x.1.now)) result ((inside_parts m.now.plant version).read bytes.now) }
+    ensures { let format = inside_parts m.now.plant version in Gives (λ x. (x.0, x.1.now)) result
+        (format.read bytes.now) }
 {
     let left = Left { bytes: bytes.len() };
     let (plane, rest) = plane_of(bytes, waves_stand(m, version), wave_limit(m))?;
@@ -210,7 +211,8 @@ fn demands_of(bytes: &[u8], count: u64) -> Result<(ArrayVec<[i64; 3], 60>, &[u8]
 
 #[tactic(auto, unfolding(crate::specs::Parts::state_parts))]
 fn state_of<'a>(m: &Machine, version: u32, bytes: &'a [u8]) -> Result<(State, &'a [u8]), Left>
-    ensures { Gives (λ x. (x.0, x.1.now)) result ((state_parts m.now.plant version).read bytes.now) }
+    ensures { let format = state_parts m.now.plant version in Gives (λ x. (x.0, x.1.now)) result
+        (format.read bytes.now) }
 {
     let (count, rest) = u64_at(bytes, 0, COUNTS)?;
     let (plane, rest) = inside_of(m, version, rest)?;

@@ -7,7 +7,7 @@ use Rattle.dp_core.proofs.FreshBallots.{same-force}
 use Rattle.dp_core.proofs.Cycles.{reference_issue-step}
 use Rattle.dp_core.proofs.Moments.{IsMessage-of, IsTaken-from_order, moment}
 use Rattle.dp_core.proofs.Soundness.{IsReference, Sound, not_faulty_at, not_faulty_earlier, not_skewed, sound}
-use Rattle.dp_core.specs.Faulty.{is_faulty_in_cycle}
+use Rattle.dp_core.specs.Faulty.{AtMostOneFaulty, is_faulty_in_cycle}
 use Rattle.dp_core.specs.History.{history, seen_of}
 use Rattle.dp_core.specs.Mode.{cycles_begun, frames}
 use Rattle.dp_core.specs.Moment.{Moment, is_order, is_wire, saw_taken}
@@ -80,7 +80,7 @@ unfolding is_delivery
 delivered-now p k a h (Order b j) lim ok s o r =
     let ends = and_parts (eqb b a) (eqb j k) o in
     let m = IsMessage-of k (last_issue a h) r.message r.is in
-    let alone = ok.issues a m.issue (not_skewed a h (not_faulty_at a h s)) m.is in
+    let alone = (ok.computers a).issue m.issue (not_skewed a h (not_faulty_at a h s)) m.is in
     let fits = reference-limited p lim (frames h) m.issue.cycle m.issue k r.message.force alone m.force in
     let t = taken-new p k a h r.message r.is r.now r.before_vote fits in
     let u = subst (λ i. is_some (taken_force k a (moment p h (Order i k) ∷ h)) ≡ true) (sym (eqb-true b a ends.0)) t in
@@ -96,18 +96,18 @@ unfolding is_delivered
 delivered-cases k a m h true e s = let t = rw e at s in cc
 delivered-cases k a m h false e s = let t = rw e at s in (refl, or_cases (is_delivery a k m.event && is_ready (message_of k (last_issue a h)) (cycles_begun h) (given_ballot k h)) (is_delivered k a h) t)
 
-pub delivered-taken : (p : Plant) (lim : IsLimited p) (es : List Event) (k a : ℕ) → is_faulty_in_cycle a (history p es) ≡ false → is_delivered k a (history p es) ≡ true → is_some (taken_force k a (history p es)) ≡ true
-unfolding history is_delivered
-delivered-taken p lim [] k a s v = cc
-delivered-taken p lim (e ∷ es) k a s v =
+pub delivered-taken : (p : Plant) (lim : IsLimited p) (es : List Event) (k a : ℕ) → AtMostOneFaulty (history p es) → is_faulty_in_cycle a (history p es) ≡ false → is_delivered k a (history p es) ≡ true → is_some (taken_force k a (history p es)) ≡ true
+unfolding history is_delivered AtMostOneFaulty
+delivered-taken p lim [] k a one s v = cc
+delivered-taken p lim (e ∷ es) k a one s v =
     let h = history p es in
     let m = moment p h e in
     let t = delivered-cases k a m h (is_wire e) refl v in
     let before = not_faulty_earlier a m h t.0 s in
     elim t.1 [
       | inl u ↦ (let parts = and_parts (is_delivery a k e) (is_ready (message_of k (last_issue a h)) (cycles_begun h) (given_ballot k h)) u in
-          delivered-now p k a h e lim (sound p es) before parts.0 (IsReady-from_test (cycles_begun h) (message_of k (last_issue a h)) (given_ballot k h) parts.1))
-      | inr u ↦ taken-stays p k a h e (is_order a k e && saw_taken (seen_of p h e)) t.0 refl (λ q. says-some p k a h e q) (delivered-taken p lim es k a before u)
+          delivered-now p k a h e lim (sound p es one.0) before parts.0 (IsReady-from_test (cycles_begun h) (message_of k (last_issue a h)) (given_ballot k h) parts.1))
+      | inr u ↦ taken-stays p k a h e (is_order a k e && saw_taken (seen_of p h e)) t.0 refl (λ q. says-some p k a h e q) (delivered-taken p lim es k a one.0 before u)
     ]
 
 -- ---- the ballot
@@ -117,16 +117,16 @@ some-value (Some f) e = (f, refl)
 some-value None e = cc
 
 -- the force that was taken of a computer whose issue was delivered
-force-delivered : (p : Plant) (lim : IsLimited p) (es : List Event) (k a : ℕ) → is_faulty_in_cycle a (history p es) ≡ false → is_delivered k a (history p es) ≡ true → (f : ℤ) × (taken_force k a (history p es) ≡ Some f) × IsReference p (frames (history p es)) k f
-force-delivered p lim es k a s v =
-    let t = some-value (taken_force k a (history p es)) (delivered-taken p lim es k a s v) in
-    (t.0, t.1, (sound p es).orders k a t.0 s t.1)
+force-delivered : (p : Plant) (lim : IsLimited p) (es : List Event) (k a : ℕ) → AtMostOneFaulty (history p es) → is_faulty_in_cycle a (history p es) ≡ false → is_delivered k a (history p es) ≡ true → (f : ℤ) × (taken_force k a (history p es) ≡ Some f) × IsReference p (frames (history p es)) k f
+force-delivered p lim es k a one s v =
+    let t = some-value (taken_force k a (history p es)) (delivered-taken p lim es k a one s v) in
+    (t.0, t.1, (sound p es one).orders k a t.0 s t.1)
 
 -- two of them
-pub two-delivered : (p : Plant) (lim : IsLimited p) (es : List Event) (k a b : ℕ) → is_faulty_in_cycle a (history p es) ≡ false → is_faulty_in_cycle b (history p es) ≡ false → is_delivered k a (history p es) ≡ true → is_delivered k b (history p es) ≡ true → (f : ℤ) × (taken_force k a (history p es) ≡ Some f) × (taken_force k b (history p es) ≡ Some f) × IsReference p (frames (history p es)) k f
-two-delivered p lim es k a b sa sb va vb =
-    let x = force-delivered p lim es k a sa va in
-    let y = force-delivered p lim es k b sb vb in
+pub two-delivered : (p : Plant) (lim : IsLimited p) (es : List Event) (k a b : ℕ) → AtMostOneFaulty (history p es) → is_faulty_in_cycle a (history p es) ≡ false → is_faulty_in_cycle b (history p es) ≡ false → is_delivered k a (history p es) ≡ true → is_delivered k b (history p es) ≡ true → (f : ℤ) × (taken_force k a (history p es) ≡ Some f) × (taken_force k b (history p es) ≡ Some f) × IsReference p (frames (history p es)) k f
+two-delivered p lim es k a b one sa sb va vb =
+    let x = force-delivered p lim es k a one sa va in
+    let y = force-delivered p lim es k b one sb vb in
     let same = same-force p (frames (history p es)) k y.0 x.0 y.2 x.2 in
     (x.0, x.1, y.1 ∙ ap Some same, x.2)
 
@@ -150,10 +150,10 @@ of_two k a b h f (FirstTwo ea eb) ta tb = inl (subst (λ i. taken_force k i h �
 of_two k a b h f (OuterTwo ea eb) ta tb = inr (inl (subst (λ i. taken_force k i h ≡ Some f) ea ta, subst (λ i. taken_force k i h ≡ Some f) eb tb))
 of_two k a b h f (LastTwo ea eb) ta tb = inr (inr (subst (λ i. taken_force k i h ≡ Some f) ea ta, subst (λ i. taken_force k i h ≡ Some f) eb tb))
 
-pub delivered-fresh : (right : TwoRightAreFresh) (p : Plant) (lim : IsLimited p) (es : List Event) (k a b : ℕ) → a < b → b < 3 → is_faulty_in_cycle a (history p es) ≡ false → is_faulty_in_cycle b (history p es) ≡ false → is_delivered k a (history p es) ≡ true → is_delivered k b (history p es) ≡ true → given_ballot k (history p es) ≡ None → (f : ℤ) × (ballot k (history p es) ≡ Fresh f) × IsReference p (frames (history p es)) k f
+pub delivered-fresh : (right : TwoRightAreFresh) (p : Plant) (lim : IsLimited p) (es : List Event) (k a b : ℕ) → AtMostOneFaulty (history p es) → a < b → b < 3 → is_faulty_in_cycle a (history p es) ≡ false → is_faulty_in_cycle b (history p es) ≡ false → is_delivered k a (history p es) ≡ true → is_delivered k b (history p es) ≡ true → given_ballot k (history p es) ≡ None → (f : ℤ) × (ballot k (history p es) ≡ Fresh f) × IsReference p (frames (history p es)) k f
 unfolding ballot agreed_force
-delivered-fresh right p lim es k a b l m sa sb va vb g =
+delivered-fresh right p lim es k a b one l m sa sb va vb g =
     let h = history p es in
-    let t = two-delivered p lim es k a b sa sb va vb in
+    let t = two-delivered p lim es k a b one sa sb va vb in
     let fresh = right t.0 (taken_force k 0 h) (taken_force k 1 h) (taken_force k 2 h) (of_two k a b h t.0 (pair_of a b l m) t.1 t.2) in
     (t.0, rw (g, fresh), t.3)

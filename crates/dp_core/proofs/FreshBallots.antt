@@ -132,6 +132,6 @@ given-force right p (e ∷ es) k f one s =
       | inr u ↦ (
           let b = voted-first p h e k (Fresh f) u.0 u.1 in
           let fresh = ballot_from-fresh (agreed_force k h) (unfresh_cycles k h) (last_fresh k h) f (nat_le (unfresh_cycles k h) 5) refl (sym b) in
-          vote-force right p h k f (sound p es) one.0 fresh)
+          vote-force right p h k f (sound p es one.0) one.0 fresh)
     ] in
     subst (λ fs. IsReference p fs k f) (sym same) r

@@ -1,5 +1,6 @@
 -- What one more event does to the frames, and that faults of a history are those of its past as well.
 use Rattle.std.proofs.Common.{List, [], refl, ◌++◌, ◌∷◌, ◌≡◌, ℕ, ℤ}
+use Rattle.arrayvec.specs.ArrayVec.{ArrayVec}
 use Rattle.dp_core.proofs.Moments.{moment}
 use Rattle.dp_core.proofs.Trajectories.{frames-kept}
 use Rattle.dp_core.specs.Faulty.{AtMostOneFaulty}
@@ -7,7 +8,7 @@ use Rattle.dp_core.specs.History.{history}
 use Rattle.dp_core.specs.Mode.{frames}
 use Rattle.dp_core.specs.Moment.{frame_of}
 use Rattle.dp_core.specs.declared.event.Event.{Event}
-use Rattle.dp_core.specs.declared.event.Event.TheVariants.{Order, Run, Say, Skew, Stop, Vote, Wire}
+use Rattle.dp_core.specs.declared.event.Event.TheVariants.{Lie, Order, Restart, Run, Say, Skew, Stop, Tell, Upgrade, Vote, Wire}
 use Rattle.dp_plant.specs.declared.frames.Frame.{Frame}
 use Rattle.dp_plant.specs.declared.place.Place.{Place}
 use Rattle.dp_plant.specs.declared.plant.Plant.{Plant}
@@ -46,6 +47,22 @@ frames-say p a k cycle force es = frames-other p (Say a k cycle force) es refl
 pub frames-stop : (p : Plant) (c : ℕ) (es : List Event) → frames (history p (Stop c ∷ es)) ≡ frames (history p es)
 unfolding frame_of
 frames-stop p c es = frames-other p (Stop c) es refl
+
+pub frames-tell : (p : Plant) (a c : ℕ) (es : List Event) → frames (history p (Tell a c ∷ es)) ≡ frames (history p es)
+unfolding frame_of
+frames-tell p a c es = frames-other p (Tell a c) es refl
+
+pub frames-lie : (p : Plant) (a c : ℕ) (bytes : ArrayVec ℕ) (es : List Event) → frames (history p (Lie a c bytes ∷ es)) ≡ frames (history p es)
+unfolding frame_of
+frames-lie p a c bytes es = frames-other p (Lie a c bytes) es refl
+
+pub frames-restart : (p : Plant) (c : ℕ) (es : List Event) → frames (history p (Restart c ∷ es)) ≡ frames (history p es)
+unfolding frame_of
+frames-restart p c es = frames-other p (Restart c) es refl
+
+pub frames-upgrade : (p : Plant) (c : ℕ) (es : List Event) → frames (history p (Upgrade c ∷ es)) ≡ frames (history p es)
+unfolding frame_of
+frames-upgrade p c es = frames-other p (Upgrade c) es refl
 
 -- ---- at most one faulty computer in any cycle: so it was before the later events too
 

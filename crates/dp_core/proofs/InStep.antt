@@ -1,9 +1,11 @@
 -- A computer that isn't off has the frames of all cycles, and each is of the world's plant.
-use Rattle.std.proofs.Common.{Bool, List, [], Some, arith, cond, eqb, false, inl, inr, length, map, refl, slice_set, subst, true, ℕ, ◌+◌, ◌∙◌, ◌∷◌, ◌≡◌}
-use Rattle.std.specs.Prelude.{slice_get}
-use Rattle.dp_core.proofs.Lists.{map-at, set-at}
+use Rattle.std.proofs.Common.{Bool, List, None, Option, [], Some, arith, cond, eqb, false, inl, inr, length, map, refl, slice_set, subst, true, ℕ, ◌+◌, ◌∙◌, ◌∷◌, ◌≡◌}
+use Rattle.std.specs.Prelude.{Err, Ok, Result, nat_lt, slice_get}
+use Rattle.dp_core.proofs.Lists.{changed-at, map-at, set-at}
 use Rattle.dp_machine.specs.declared.state.State.{State}
-use Rattle.dp_core.specs.ComputerState.{ComputerState, Control, InControl, SwitchedOff, ToAlign, after_run, after_skew, after_step, after_stop, after_wire, run_in, run_over_oldest, skew_in, wire_in, with_frame, with_overrun}
+use Rattle.dp_exchange.specs.ComputerState.{ComputerState, Control, InControl, SwitchedOff, ToAlign, after_offer, after_restart, after_run, after_skew, after_state, after_step, after_stop, after_upgrade, after_wire, is_live, mode_of, offer_in, offered_by, oldest, run_in, run_over_oldest, skew_in, told_text, wire_in, with_frame, with_offer, with_overrun}
+use Rattle.dp_exchange.specs.Offers.{is_confirmed}
+use Rattle.dp_core.specs.WorldState.{change_at, with_text}
 use Rattle.dp_core.specs.WorldView.{IsInStep}
 use Rattle.dp_plant.specs.declared.frames.Frame.{Frame}
 use Rattle.dp_plant.specs.declared.place.Place.{Place}
@@ -52,6 +54,49 @@ pub skew-in_step : (n : ℕ) (x : ComputerState) (at : Place) → IsInStep n x �
 unfolding after_skew
 skew-in_step n x at s = skew_in-in_step n x at x.control refl s
 
+pub restart-in_step : (n : ℕ) (x : ComputerState) → IsInStep n (after_restart x n)
+unfolding after_restart
+restart-in_step n x = λ _. refl
+
+pub upgrade-in_step : (n : ℕ) (x : ComputerState) → IsInStep n (after_upgrade x n)
+unfolding after_upgrade after_restart
+upgrade-in_step n x = λ _. refl
+
+with_offer-in_step : (n : ℕ) (x : ComputerState) (a : ℕ) (s : State) (both : Bool) → x.next ≡ n → IsInStep n (with_offer x a s both)
+unfolding with_offer
+with_offer-in_step n x a s false e = λ _. e
+with_offer-in_step n x a s true e = λ _. e
+
+after_state-in_step : (n : ℕ) (x : ComputerState) (a : ℕ) (s : State) → x.next ≡ n → IsInStep n (after_state x a s)
+unfolding after_state
+after_state-in_step n x a s e = by (nat_lt x.next s.count) (nat_lt s.count (oldest x))
+  where
+    by : (new old : Bool) → IsInStep n (cond new x (cond old x (with_offer x a s (is_confirmed x.offers a s))))
+    by true old = λ _. e
+    by false true = λ _. e
+    by false false = with_offer-in_step n x a s (is_confirmed x.offers a s) e
+
+offer_in-in_step : (n : ℕ) (x : ComputerState) (a : ℕ) (r : Result State ℕ) (c : Control) → x.control ≡ c → IsInStep n x → IsInStep n (offer_in x a r c)
+unfolding offer_in
+offer_in-in_step n x a (Ok s) ToAlign e t = after_state-in_step n x a s (t (λ q. (let u = rw e at q in cc)))
+offer_in-in_step n x a (Err place) ToAlign e t = t
+offer_in-in_step n x a (Ok s) (InControl state) e t = t
+offer_in-in_step n x a (Err place) (InControl state) e t = t
+offer_in-in_step n x a (Ok s) SwitchedOff e t = t
+offer_in-in_step n x a (Err place) SwitchedOff e t = t
+
+pub offer-in_step : (n : ℕ) (x : ComputerState) (a : ℕ) (r : Result State ℕ) → IsInStep n x → IsInStep n (after_offer x a r)
+unfolding after_offer
+offer-in_step n x a r t = offer_in-in_step n x a r x.control refl t
+
+pub text-in_step : (n a : ℕ) (o : Option ComputerState) (x : ComputerState) → IsInStep n x → IsInStep n (with_text a o x)
+text-in_step n a None x t = t
+text-in_step n a (Some y) x t = by (is_live (mode_of y.control))
+  where
+    by : (live : Bool) → IsInStep n (cond live (after_offer x a (offered_by x (told_text y))) x)
+    by true = offer-in_step n x a (offered_by x (told_text y)) t
+    by false = t
+
 -- ---- the plant stays
 
 wire_in-plant : (x : ComputerState) (f : Frame) (c : Control) → (wire_in x f c).plant ≡ x.plant
@@ -97,7 +142,57 @@ pub skew-plant : (x : ComputerState) (at : Place) → (after_skew x at).plant �
 unfolding after_skew
 skew-plant x at = skew_in-plant x at x.control
 
+pub restart-plant : (x : ComputerState) (n : ℕ) → (after_restart x n).plant ≡ x.plant
+unfolding after_restart
+restart-plant x n = refl
+
+pub upgrade-plant : (x : ComputerState) (n : ℕ) → (after_upgrade x n).plant ≡ x.plant
+unfolding after_upgrade after_restart
+upgrade-plant x n = refl
+
+with_offer-plant : (x : ComputerState) (a : ℕ) (s : State) (both : Bool) → (with_offer x a s both).plant ≡ x.plant
+unfolding with_offer
+with_offer-plant x a s false = refl
+with_offer-plant x a s true = refl
+
+after_state-plant : (x : ComputerState) (a : ℕ) (s : State) → (after_state x a s).plant ≡ x.plant
+unfolding after_state
+after_state-plant x a s = by (nat_lt x.next s.count) (nat_lt s.count (oldest x))
+  where
+    by : (new old : Bool) → (cond new x (cond old x (with_offer x a s (is_confirmed x.offers a s)))).plant ≡ x.plant
+    by true old = refl
+    by false true = refl
+    by false false = with_offer-plant x a s (is_confirmed x.offers a s)
+
+offer_in-plant : (x : ComputerState) (a : ℕ) (r : Result State ℕ) (c : Control) → (offer_in x a r c).plant ≡ x.plant
+unfolding offer_in
+offer_in-plant x a (Ok s) ToAlign = after_state-plant x a s
+offer_in-plant x a (Err place) ToAlign = refl
+offer_in-plant x a (Ok s) (InControl state) = refl
+offer_in-plant x a (Err place) (InControl state) = refl
+offer_in-plant x a (Ok s) SwitchedOff = refl
+offer_in-plant x a (Err place) SwitchedOff = refl
+
+pub offer-plant : (x : ComputerState) (a : ℕ) (r : Result State ℕ) → (after_offer x a r).plant ≡ x.plant
+unfolding after_offer
+offer-plant x a r = offer_in-plant x a r x.control
+
+pub text-plant : (a : ℕ) (o : Option ComputerState) (x : ComputerState) → (with_text a o x).plant ≡ x.plant
+text-plant a None x = refl
+text-plant a (Some y) x = by (is_live (mode_of y.control))
+  where
+    by : (live : Bool) → (cond live (after_offer x a (offered_by x (told_text y))) x).plant ≡ x.plant
+    by true = offer-plant x a (offered_by x (told_text y))
+    by false = refl
+
 -- ---- all of them
+
+-- the same of a change of one, as it is
+pub changed-keeps : (P : ComputerState → Type 0) (xs : List ComputerState) (k : ℕ) (change : ComputerState → ComputerState) → ((c : ℕ) (z : ComputerState) → slice_get xs c ≡ Some z → P z) → ((z : ComputerState) → P z → P (change z)) → (c : ℕ) (z : ComputerState) → slice_get (change_at xs k change) c ≡ Some z → P z
+changed-keeps P xs k change all keeps c z e = elim (changed-at xs k c change z e) [
+  | inl u ↦ subst P u.1.is (keeps u.1.before (all k u.1.before u.1.stood))
+  | inr u ↦ all c z u.1
+]
 
 -- one of the computers changed, and what holds of all still does
 pub one-keeps : (P : ComputerState → Type 0) (xs : List ComputerState) (k : ℕ) (x y : ComputerState) → ((c : ℕ) (z : ComputerState) → slice_get xs c ≡ Some z → P z) → slice_get xs k ≡ Some x → (P x → P y) → (c : ℕ) (z : ComputerState) → slice_get (slice_set xs k y) c ≡ Some z → P z

@@ -101,6 +101,10 @@ put-same xs k (Some x) e = set-same xs k x e
 pub changed-same : {A : Type 0} (xs : List A) (k : ℕ) → change_at xs k (λ x. x) ≡ xs
 changed-same xs k = put-same xs k (slice_get xs k) refl
 
+-- two changes that are alike where they are made
+pub changed-alike : {A : Type 0} (xs : List A) (k : ℕ) (x : A) (f g : A → A) → slice_get xs k ≡ Some x → f x ≡ g x → change_at xs k f ≡ change_at xs k g
+changed-alike xs k x f g at e = rw at (ap (λ y. slice_set xs k y) e)
+
 -- there is an element below the length
 pub get-below : {A : Type 0} (xs : List A) (k : ℕ) → k < length xs → (x : A) × (slice_get xs k ≡ Some x)
 get-below [] k l = absurd (omega arith)

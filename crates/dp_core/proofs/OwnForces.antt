@@ -16,11 +16,11 @@ use Rattle.dp_plant.specs.declared.plant.Plant.{Plant}
 use Rattle.dp_voter.specs.declared.order.Took.{Took}
 use Rattle.dp_voter.specs.declared.order.Took.TheVariants.{Repeated, Stale, Taken, Unfit}
 
-record IsOwnIssue (p : Plant) (c : ℕ) (es : List Event) (x : Issue) : Type 0 where
-  later : List Event
-  earlier : List Event
-  parts : es ≡ later ++ Run c ∷ earlier
-  run : IsRun p c (history p earlier) (Run c) x
+pub record IsOwnIssue (p : Plant) (c : ℕ) (es : List Event) (x : Issue) : Type 0 where
+  pub later : List Event
+  pub earlier : List Event
+  pub parts : es ≡ later ++ Run c ∷ earlier
+  pub run : IsRun p c (history p earlier) (Run c) x
 
 run-itself : (p : Plant) (c : ℕ) (h : List Moment) (e : Event) (x : Issue) → issue_at c (moment p h e) ≡ Some x → e ≡ Run c
 unfolding issue_at is_run
@@ -46,7 +46,7 @@ own_by p c e es x false (Some y) eb ei ih l =
       run = subst (λ d. IsRun p c (history p es) d x) it (IsRun-from_issue p c (history p es) e x (ei ∙ ap Some same));
     }
 
-last_issue-own : (p : Plant) (c : ℕ) (es : List Event) (x : Issue) → last_issue c (history p es) ≡ Some x → IsOwnIssue p c es x
+pub last_issue-own : (p : Plant) (c : ℕ) (es : List Event) (x : Issue) → last_issue c (history p es) ≡ Some x → IsOwnIssue p c es x
 unfolding history last_issue
 last_issue-own p c [] x l = cc
 last_issue-own p c (e ∷ es) x l = own_by p c e es x (is_break c (moment p (history p es) e)) (issue_at c (moment p (history p es) e)) refl refl (last_issue-own p c es x) l

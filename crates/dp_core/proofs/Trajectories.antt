@@ -1,19 +1,21 @@
 -- How the trajectory of a computer, and the count of its frames, change at an event.
-use Rattle.std.proofs.Common.{Bool, List, None, Some, [], append-nil, arith, cond, false, length-append, refl, sym, true, ℕ, ◌++◌, ◌+◌, ◌∙◌, ◌∷◌, ◌≡◌, ◌≤◌}
+use Rattle.std.proofs.Common.{Bool, List, None, Some, [], ap, append-nil, arith, cond, false, length-append, refl, sym, true, unwrap_or, ℕ, ◌++◌, ◌+◌, ◌∙◌, ◌∷◌, ◌≡◌, ◌≤◌}
 use Rattle.std.specs.Prelude.{slice_get}
 use Rattle.dp_core.proofs.Cycles.{first-count, rest-count, run_on-count, run_on-grown, run_on-none, run_on-step, slice_get-below}
-use Rattle.dp_core.proofs.Moments.{Bases, Broke, IsRun-from_issue, IsSkew-from_base, Kind, Quiet, Runs, kind, moment}
-use Rattle.dp_core.proofs.Searches.{base-new, base-quiet, mode-broken, mode-quiet, runs-base, runs-quiet, runs-run}
+use Rattle.dp_core.proofs.Moments.{Adopts, Broke, IsAdoption, IsAdoption-from_adoption, IsRun-from_issue, IsSkew-from_skew, Kind, Quiet, Runs, Skews, kind, moment}
+use Rattle.dp_core.proofs.Searches.{adoption-base, base-adopted, base-quiet, base-skewed, mode-broken, mode-quiet, no_base-parts, runs-base, runs-quiet, runs-run, skew-base}
 use Rattle.dp_core.specs.History.{history}
 use Rattle.dp_core.specs.Mode.{cycles_begun, frames, mode}
-use Rattle.dp_core.specs.Moment.{Moment, frame_of, is_base, is_break, is_end, issue_at}
-use Rattle.dp_core.specs.Trajectory.{base, frames_done, runs, state_at_base, trajectory}
+use Rattle.dp_core.specs.Moment.{Moment, frame_of, is_adoption, is_base, is_break, is_end, is_skew, issue_at, place_of_skew}
+use Rattle.dp_core.specs.Offered.{state_in}
+use Rattle.dp_core.specs.Trajectory.{base, frames_done, runs, trajectory}
 use Rattle.dp_core.specs.declared.event.Event.{Event}
 use Rattle.dp_machine.specs.Run.{own_setpoints}
-use Rattle.dp_machine.specs.Step.{step_of}
+use Rattle.dp_machine.specs.Step.{rest_in, step_of}
 use Rattle.dp_machine.specs.declared.issue.Issue.{Issue}
 use Rattle.dp_machine.specs.declared.state.State.{State}
 use Rattle.dp_plant.specs.declared.frames.Frame.{Frame}
+use Rattle.dp_plant.specs.Vectors.{zero_place}
 use Rattle.dp_plant.specs.declared.plant.Plant.{Plant}
 use Rattle.dp_plant.specs.declared.voting.Mode.TheVariants.{Aligning, Live, Off}
 
@@ -40,27 +42,36 @@ broken-not_live c m h b l = not_live (is_end c m) (sym (mode-broken c m h b) ∙
     not_live true e = cc
     not_live false e = cc
 
-base-count : (c : ℕ) (m : Moment) (s : State) → (state_at_base c m s).count ≡ s.count
-unfolding state_at_base
-base-count c m s = rest-count s _
+-- the trajectory of a computer that adopts starts from the state that it adopts
+pub adopted-base : (p : Plant) (c : ℕ) (h : List Moment) (e : Event) (s : State) → is_adoption c (moment p h e) ≡ true → IsAdoption p c h e s → base p c (moment p h e ∷ h) ≡ s
+unfolding state_in
+adopted-base p c h e s a t =
+    base-adopted c (moment p h e) h p a ∙ ap (λ o. unwrap_or (state_in o) (trajectory p c h)) t.offer.brings
 
 within_by : (p : Plant) (h : List Moment) (e : Event) (c : ℕ) → Kind c (moment p h e) → Within p h → mode c (moment p h e ∷ h) ≡ Live → frames_done p c (moment p h e ∷ h) ≤ cycles_begun (moment p h e ∷ h)
 unfolding frames_done Within trajectory
 within_by p h e c (Broke b) w l = absurd (broken-not_live c (moment p h e) h b l)
-within_by p h e c (Bases b s) w l =
-    let k = IsSkew-from_base p c h e s in
+within_by p h e c (Adopts b a) w l =
+    let m = moment p h e in
+    let t = IsAdoption-from_adoption p c h e a in
+    let came = t.1.offer.fits.not_new in
+    let g = cycles-grow m h in
+    rw (adopted-base p c h e t.0 a t.1, runs-base c m h b (adoption-base c m a)) (omega arith)
+within_by p h e c (Skews b a s) w l =
+    let m = moment p h e in
+    let k = IsSkew-from_skew p c h e s in
     let was = w c k.live in
-    let g = cycles-grow (moment p h e) h in
+    let g = cycles-grow m h in
     let count = run_on-count p (own_setpoints p) (frames h) (base p c h) (runs c h) was in
-    let same = base-count c (moment p h e) (trajectory p c h) in
-    rw (base-new c (moment p h e) h p s, runs-base c (moment p h e) h b s, same) (omega arith)
+    let same = rest-count (trajectory p c h) (unwrap_or (place_of_skew c e) zero_place) in
+    rw (base-skewed c m h p a s, runs-base c m h b (skew-base c m a s), same) (omega arith)
 within_by p h e c (Runs b s x i) w l =
     let r = IsRun-from_issue p c h e x i in
     let below = slice_get-below (frames h) (frames_done p c h) r.frame r.waited in
     let g = cycles-grow (moment p h e) h in
     rw (base-quiet c (moment p h e) h p s, runs-run c (moment p h e) h x b s i) (omega arith)
 within_by p h e c (Quiet b s i) w l =
-    let was = w c (sym (mode-quiet c (moment p h e) h b) ∙ l) in
+    let was = w c (sym (mode-quiet c (moment p h e) h b (no_base-parts c (moment p h e) s).0) ∙ l) in
     let g = cycles-grow (moment p h e) h in
     rw (base-quiet c (moment p h e) h p s, runs-quiet c (moment p h e) h b s i) (omega arith)
 
@@ -92,13 +103,26 @@ module _ (p : Plant) (c : ℕ) (m : Moment) (h : List Moment) where
   unfolding frames_done
   done-run x b s i = rw (base-quiet c m h p s, runs-run c m h x b s i) (omega arith)
 
-  pub trajectory-base : is_break c m ≡ false → is_base c m ≡ true → trajectory p c (m ∷ h) ≡ state_at_base c m (trajectory p c h)
+  pub trajectory-skewed : is_break c m ≡ false → is_adoption c m ≡ false → is_skew c m ≡ true → trajectory p c (m ∷ h) ≡ rest_in (trajectory p c h) (unwrap_or (place_of_skew c m.event) zero_place)
   unfolding trajectory
-  trajectory-base b s = rw (base-new c m h p s, runs-base c m h b s) (run_on-none p (own_setpoints p) (frames (m ∷ h)) (state_at_base c m (trajectory p c h)))
+  trajectory-skewed b a s =
+      rw (base-skewed c m h p a s, runs-base c m h b (skew-base c m a s)) (run_on-none p (own_setpoints p) (frames (m ∷ h)) (rest_in (trajectory p c h) (unwrap_or (place_of_skew c m.event) zero_place)))
 
-  pub done-base : is_break c m ≡ false → is_base c m ≡ true → frames_done p c h ≤ cycles_begun h → frames_done p c (m ∷ h) ≡ frames_done p c h
+  pub done-skewed : is_break c m ≡ false → is_adoption c m ≡ false → is_skew c m ≡ true → frames_done p c h ≤ cycles_begun h → frames_done p c (m ∷ h) ≡ frames_done p c h
   unfolding frames_done
-  done-base b s w =
+  done-skewed b a s w =
       let k = trajectory-count p c h w in
-      let same = base-count c m (trajectory p c h) in
-      rw (base-new c m h p s, runs-base c m h b s, same) (omega arith)
+      let same = rest-count (trajectory p c h) (unwrap_or (place_of_skew c m.event) zero_place) in
+      rw (base-skewed c m h p a s, runs-base c m h b (skew-base c m a s), same) (omega arith)
+
+pub trajectory-adopted : (p : Plant) (c : ℕ) (h : List Moment) (e : Event) (s : State) → is_break c (moment p h e) ≡ false → is_adoption c (moment p h e) ≡ true → IsAdoption p c h e s → trajectory p c (moment p h e ∷ h) ≡ s
+unfolding trajectory
+trajectory-adopted p c h e s b a t =
+    let m = moment p h e in
+    rw (adopted-base p c h e s a t, runs-base c m h b (adoption-base c m a)) (run_on-none p (own_setpoints p) (frames (m ∷ h)) s)
+
+pub done-adopted : (p : Plant) (c : ℕ) (h : List Moment) (e : Event) (s : State) → is_break c (moment p h e) ≡ false → is_adoption c (moment p h e) ≡ true → IsAdoption p c h e s → frames_done p c (moment p h e ∷ h) ≡ s.count
+unfolding frames_done
+done-adopted p c h e s b a t =
+    let m = moment p h e in
+    rw (adopted-base p c h e s a t, runs-base c m h b (adoption-base c m a)) (omega arith)

@@ -4,7 +4,7 @@ use Rattle.std.proofs.lemmas.Bool.{cases_Bool, eqb-true}
 use Rattle.dp_core.proofs.Computers.{vote-nothing}
 use Rattle.dp_core.proofs.HistoryLemmas.{frames-vote}
 use Rattle.dp_core.proofs.Moments.{moment}
-use Rattle.dp_core.proofs.Searches.{mode-quiet}
+use Rattle.dp_core.proofs.Searches.{mode-quiet, no_base-parts}
 use Rattle.dp_core.proofs.Voters.{given-kept, given-voted, last_fresh-kept, taken-kept, unfresh-kept}
 use Rattle.dp_core.specs.History.{history}
 use Rattle.dp_core.specs.Mode.{frames, mode}
@@ -85,7 +85,8 @@ pub mode-vote : (p : Plant) (j c : ℕ) (es : List Event) → mode c (history p 
 unfolding history
 mode-vote p j c es =
     let h = history p es in
-    mode-quiet c (moment p h (Vote j)) h (vote-nothing p c j h).no_break
+    let n = vote-nothing p c j h in
+    mode-quiet c (moment p h (Vote j)) h n.no_break (no_base-parts c (moment p h (Vote j)) n.no_base).0
 
 -- ---- any number of Votes, of any voters
 

@@ -14,7 +14,7 @@ use Rattle.dp_core.specs.Voting.{Message, agreed_force, answer, answer_if, ballo
 use Rattle.dp_core.specs.declared.event.Seen.TheVariants.{Sent as SeenSent}
 use Rattle.std.specs.Option.{option_or}
 use Rattle.dp_core.specs.declared.event.Event.{Event}
-use Rattle.dp_core.specs.declared.event.Event.TheVariants.{Order, Run, Say, Skew, Stop, Vote, Wire}
+use Rattle.dp_core.specs.declared.event.Event.TheVariants.{Lie, Order, Restart, Run, Say, Skew, Stop, Tell, Upgrade, Vote, Wire}
 use Rattle.dp_plant.specs.declared.frames.Frame.{Frame}
 use Rattle.dp_plant.specs.declared.plant.Plant.{Plant}
 use Rattle.dp_plant.specs.declared.voting.Ballot.{Ballot}
@@ -271,7 +271,11 @@ fresh-next p k h (Run c) i = fresh-kept k (moment p h (Run c)) h refl refl i
 fresh-next p k h (Order a j) i = fresh-kept k (moment p h (Order a j)) h refl refl i
 fresh-next p k h (Skew c at) i = fresh-kept k (moment p h (Skew c at)) h refl refl i
 fresh-next p k h (Say a j cycle force) i = fresh-kept k (moment p h (Say a j cycle force)) h refl refl i
+fresh-next p k h (Tell a c) i = fresh-kept k (moment p h (Tell a c)) h refl refl i
+fresh-next p k h (Lie a c bytes) i = fresh-kept k (moment p h (Lie a c bytes)) h refl refl i
 fresh-next p k h (Stop c) i = fresh-kept k (moment p h (Stop c)) h refl refl i
+fresh-next p k h (Restart c) i = fresh-kept k (moment p h (Restart c)) h refl refl i
+fresh-next p k h (Upgrade c) i = fresh-kept k (moment p h (Upgrade c)) h refl refl i
 
 pub fresh_is_last : (p : Plant) (k : ℕ) (es : List Event) → FreshIsLast k (history p es)
 unfolding history given_ballot

@@ -1,29 +1,37 @@
 -- A world represents one more event.
 use Rattle.dp_core.specs.Mode as modes
-use Rattle.std.proofs.Common.{Bool, List, None, Option, Some, [], ap, arith, eqb, false, get_or, inl, inr, length, map, refl, subst, suc, sym, zero, ℕ, ℤ, ◌&&◌, ◌+◌, ◌<◌, ◌∙◌, ◌∷◌, ◌≡◌}
+use Rattle.std.proofs.Common.{Bool, List, None, Option, Some, [], ap, arith, cond, eqb, false, get_or, if◌then◌else◌, inl, inr, length, map, refl, subst, suc, sym, true, zero, ℕ, ℤ, ◌&&◌, ◌+◌, ◌<◌, ◌∙◌, ◌∷◌, ◌≡◌}
 use Rattle.std.proofs.lemmas.Bool.{and_left, and_right, ne_eqb}
 use Rattle.std.specs.Prelude.{slice_get}
+use Rattle.arrayvec.specs.ArrayVec.{ArrayVec}
+use Rattle.dp_codec.specs.Spelling.{IsSoftware, state_read}
+use Rattle.dp_exchange.specs.Offers.{told_state}
+use Rattle.dp_exchange.specs.declared.answers.Offer.{Offer}
+use Rattle.dp_machine.specs.declared.state.State.{State}
 use Rattle.dp_core.proofs.Computers.{IsNothing, mode_of-control, computer-first, computer-wire, computer-kept, computer-run, computer-skew, computer-stop, wire_answer-represents, order-nothing, run-other, run_answer-represents, say-nothing, skew-other, skew_answer-represents, stop-other, vote-nothing, wire-cycles}
-use Rattle.dp_core.proofs.Lists.{below-get, changed-at, changed-length, changed-same, get-below, map-at, map-length, read-at, three-of}
+use Rattle.dp_core.proofs.Exchanges.{computer-lie, computer-restart, computer-tell, computer-upgrade, lie-other, lie-read, offer_answer-represents, restart-other, tell-answer-represents, tell-other, upgrade-other}
+use Rattle.dp_core.proofs.Lists.{below-get, changed-alike, changed-at, changed-length, changed-same, get-below, map-at, map-length, read-at, three-of}
 use Rattle.dp_core.proofs.Moments.{moment}
 use Rattle.dp_core.proofs.Trajectories.{frames-kept, within}
 use Rattle.dp_core.proofs.Voters.{IsNoVote, IsOrderOf-order, IsOrderOf-say, answer-represents, ballot-represents, fresh_is_last, voter-begun, voter-first, voter-kept, voter-ordered, voter-voted}
-use Rattle.dp_core.specs.ComputerState.{ComputerState, after_run, after_skew, after_stop, after_wire, first_computer, is_live, mode_of, run_answer, skew_answer, wire_answer}
+use Rattle.dp_exchange.specs.ComputerState.{ComputerState, Control, InControl, SwitchedOff, ToAlign, after_offer, after_restart, after_run, after_skew, after_stop, after_upgrade, after_wire, first_computer, is_live, mode_of, offer_answer, offered_by, run_answer, skew_answer, told_text, wire_answer}
 use Rattle.dp_core.specs.CycleAlarms.{alarms_in, cycle_alarms}
-use Rattle.dp_core.specs.History.{answer_to_run, answers_to_wire, history, seen_of}
+use Rattle.dp_core.specs.HeldOffers.{offered}
+use Rattle.dp_core.specs.History.{answer_in, answer_to_offer, answer_to_run, answers_to_wire, history, seen_of}
 use Rattle.dp_core.specs.Mode.{cycles_begun, frames}
-use Rattle.dp_core.specs.Moment.{Moment, ballot_at, frame_of, is_order, is_vote, is_wire, saw_taken}
+use Rattle.dp_core.specs.Moment.{Moment, ballot_at, frame_of, is_order, is_upgrade, is_vote, is_wire, saw_taken}
+use Rattle.dp_core.specs.Offered.{offer_by}
 use Rattle.dp_core.specs.Represents.{ComputerRepresents, Represents, VoterRepresents}
 use Rattle.dp_core.specs.Trajectory.{last_issue, trajectory}
 use Rattle.dp_core.specs.Voting.{Message, answer, answer_if, ballot, high_of, low_of, message_of, taken_forces}
-use Rattle.dp_core.specs.WorldState.{IsAllowed, WorldState, after, after_order, change_at, last_of, voter_of}
+use Rattle.dp_core.specs.WorldState.{IsAllowed, WorldState, after, after_order, after_tell, after_told, change_at, last_of, text_answer, told_answer, voter_of, with_text}
 use Rattle.dp_core.specs.WorldView.{IsInStep}
-use Rattle.dp_core.specs.declared.answers.Heard.{Heard}
-use Rattle.dp_core.specs.declared.answers.Ran.{Ran}
-use Rattle.dp_core.specs.declared.event.Seen.TheVariants.{Done as SeenDone, Heard as SeenHeard, Ran as SeenRan, Sent as SeenSent, Skewed as SeenSkewed, Voted as SeenVoted}
+use Rattle.dp_exchange.specs.declared.answers.Heard.{Heard}
+use Rattle.dp_exchange.specs.declared.answers.Ran.{Ran}
+use Rattle.dp_core.specs.declared.event.Seen.TheVariants.{Done as SeenDone, Heard as SeenHeard, Offered as SeenOffered, Ran as SeenRan, Sent as SeenSent, Skewed as SeenSkewed, Voted as SeenVoted}
 use Rattle.dp_machine.specs.declared.issue.Issue.{Issue}
 use Rattle.dp_core.specs.declared.event.Event.{Event}
-use Rattle.dp_core.specs.declared.event.Event.TheVariants.{Order, Run, Say, Skew, Stop, Vote, Wire}
+use Rattle.dp_core.specs.declared.event.Event.TheVariants.{Lie, Order, Restart, Run, Say, Skew, Stop, Tell, Upgrade, Vote, Wire}
 use Rattle.dp_plant.specs.declared.frames.Frame.{Frame}
 use Rattle.dp_plant.specs.declared.place.Place.{Place}
 use Rattle.dp_plant.specs.declared.plant.Plant.{Plant}
@@ -97,6 +105,22 @@ skew-no_vote : (p : Plant) (c k : ℕ) (at : Place) (h : List Moment) → IsNoVo
 unfolding is_wire frame_of is_order ballot_at is_vote
 skew-no_vote p c k at h = record { no_wire = refl; no_frame = refl; no_order = λ a. refl; no_ballot = refl }
 
+tell-no_vote : (p : Plant) (a c k : ℕ) (h : List Moment) → IsNoVote k (moment p h (Tell a c))
+unfolding is_wire frame_of is_order ballot_at is_vote
+tell-no_vote p a c k h = record { no_wire = refl; no_frame = refl; no_order = λ d. refl; no_ballot = refl }
+
+lie-no_vote : (p : Plant) (a c k : ℕ) (bytes : ArrayVec ℕ) (h : List Moment) → IsNoVote k (moment p h (Lie a c bytes))
+unfolding is_wire frame_of is_order ballot_at is_vote
+lie-no_vote p a c k bytes h = record { no_wire = refl; no_frame = refl; no_order = λ d. refl; no_ballot = refl }
+
+restart-no_vote : (p : Plant) (c k : ℕ) (h : List Moment) → IsNoVote k (moment p h (Restart c))
+unfolding is_wire frame_of is_order ballot_at is_vote
+restart-no_vote p c k h = record { no_wire = refl; no_frame = refl; no_order = λ a. refl; no_ballot = refl }
+
+upgrade-no_vote : (p : Plant) (c k : ℕ) (h : List Moment) → IsNoVote k (moment p h (Upgrade c))
+unfolding is_wire frame_of is_order ballot_at is_vote
+upgrade-no_vote p c k h = record { no_wire = refl; no_frame = refl; no_order = λ a. refl; no_ballot = refl }
+
 vote-of_another : (p : Plant) (k j : ℕ) (h : List Moment) → (j ≡ k → ⊥) → IsNoVote j (moment p h (Vote k))
 unfolding is_wire frame_of is_order ballot_at is_vote
 vote-of_another p k j h n = record { no_wire = refl; no_frame = refl; no_order = λ a. refl; no_ballot = (let e : eqb k j ≡ false = ne_eqb k j (λ q. n (sym q)) in rw e) }
@@ -155,6 +179,10 @@ after-plant w (Vote k) = refl
 after-plant w (Skew c at) = refl
 after-plant w (Say a k n f) = refl
 after-plant w (Stop c) = refl
+after-plant w (Tell a c) = refl
+after-plant w (Lie a c bytes) = refl
+after-plant w (Restart c) = refl
+after-plant w (Upgrade c) = refl
 
 wire-represents : (es : List Event) (w : WorldState) (f : Frame) → Represents es w → Represents (Wire f ∷ es) (after w (Wire f))
 unfolding after history
@@ -201,6 +229,63 @@ stop-represents es w c r =
       thrusters = r.thrusters;
       cycles = cycles_kept es w (Stop c) r refl;
     }
+
+-- an event that changes one of the computers, and is nothing to the voters
+one-represents : (es : List Event) (w : WorldState) (e : Event) (c : ℕ) (change : ComputerState → ComputerState) → frame_of e ≡ []
+    → ((x : ComputerState) → ComputerRepresents w.plant c (history w.plant es) x → ComputerRepresents w.plant c (moment w.plant (history w.plant es) e ∷ history w.plant es) (change x))
+    → ((j : ℕ) → eqb c j ≡ false → IsNothing j (moment w.plant (history w.plant es) e))
+    → ((k : ℕ) → IsNoVote k (moment w.plant (history w.plant es) e)) → Represents es w → Represents (e ∷ es) (record w { computers = change_at w.computers c change })
+unfolding history
+one-represents es w e c change n own others votes r = record {
+  computers = computers_changed es w e r c change own others;
+  three = changed-length w.computers c change ∙ r.three;
+  voters = voters_kept es w e r votes;
+  thrusters = r.thrusters;
+  cycles = cycles_kept es w e r n;
+}
+
+restart-represents : (es : List Event) (w : WorldState) (c : ℕ) → Represents es w → Represents (Restart c ∷ es) (after w (Restart c))
+unfolding after frame_of
+restart-represents es w c r =
+    let p = w.plant in
+    let h = history p es in
+    one-represents es w (Restart c) c (λ x. after_restart x w.cycles_begun) refl
+    (λ x s. subst (λ n. ComputerRepresents p c (moment p h (Restart c) ∷ h) (after_restart x n)) (sym r.cycles) (computer-restart p c h x s))
+    (λ j e. restart-other p j c h e) (λ k. restart-no_vote p c k h) r
+
+upgrade-represents : (es : List Event) (w : WorldState) (c : ℕ) → Represents es w → Represents (Upgrade c ∷ es) (after w (Upgrade c))
+unfolding after frame_of
+upgrade-represents es w c r =
+    let p = w.plant in
+    let h = history p es in
+    one-represents es w (Upgrade c) c (λ x. after_upgrade x w.cycles_begun) refl
+    (λ x s. subst (λ n. ComputerRepresents p c (moment p h (Upgrade c) ∷ h) (after_upgrade x n)) (sym r.cycles) (computer-upgrade p c h x s))
+    (λ j e. upgrade-other p j c h e) (λ k. upgrade-no_vote p c k h) r
+
+lie-represents : (es : List Event) (w : WorldState) (a c : ℕ) (bytes : ArrayVec ℕ) → a < 3 → Represents es w → Represents (Lie a c bytes ∷ es) (after w (Lie a c bytes))
+unfolding after frame_of
+lie-represents es w a c bytes a3 r =
+    let p = w.plant in
+    let h = history p es in
+    one-represents es w (Lie a c bytes) c (λ x. after_offer x a (offered_by x bytes.items)) refl
+    (λ x s. computer-lie p c a bytes h x a3 (within p es) s)
+    (λ j e. lie-other p j a c bytes h e) (λ k. lie-no_vote p a c k bytes h) r
+
+tell-represents_by : (es : List Event) (w : WorldState) (a c : ℕ) (y : ComputerState) → a < 3 → slice_get w.computers a ≡ Some y → Represents es w → Represents (Tell a c ∷ es) (record w { computers = change_at w.computers c (after_tell a (Some y)) })
+unfolding frame_of
+tell-represents_by es w a c y a3 at r =
+    let p = w.plant in
+    let h = history p es in
+    one-represents es w (Tell a c) c (after_tell a (Some y)) refl
+    (λ x s. computer-tell p c a h y x a3 (within p es) (r.computers a y at) s)
+    (λ j e. tell-other p j a c h e) (λ k. tell-no_vote p a c k h) r
+
+tell-represents : (es : List Event) (w : WorldState) (a c : ℕ) → a < 3 → Represents es w → Represents (Tell a c ∷ es) (after w (Tell a c))
+unfolding after
+tell-represents es w a c a3 r =
+    let three = r.three in
+    let y = get-below w.computers a (omega arith) in
+    subst (λ o. Represents (Tell a c ∷ es) (record w { computers = change_at w.computers c (after_tell a o) })) (sym y.1) (tell-represents_by es w a c y.0 a3 y.1 r)
 
 skew-represents : (es : List Event) (w : WorldState) (c : ℕ) (at : Place) → Represents es w → Represents (Skew c at ∷ es) (after w (Skew c at))
 unfolding after history frame_of
@@ -265,6 +350,10 @@ after-represents es w (Vote k) i r = vote-represents es w k r
 after-represents es w (Skew c at) i r = skew-represents es w c at r
 after-represents es w (Say a k n f) i r = say-represents es w a k n f i.0 r
 after-represents es w (Stop c) i r = stop-represents es w c r
+after-represents es w (Tell a c) i r = tell-represents es w a c i.0 r
+after-represents es w (Lie a c bytes) i r = lie-represents es w a c bytes i.0 r
+after-represents es w (Restart c) i r = restart-represents es w c r
+after-represents es w (Upgrade c) i r = upgrade-represents es w c r
 
 -- ---- a voter stands for each thruster
 
@@ -297,6 +386,71 @@ skew-answer es w c a c3 r is =
     let three = r.three in
     let t = get-below w.computers c (omega arith) in
     is t.0 t.1 ∙ skew_answer-represents w.plant c (history w.plant es) t.0 (r.computers c t.0 t.1)
+
+pub lie-answer : (es : List Event) (w : WorldState) (a c : ℕ) (bytes : List ℕ) (o : Offer) → c < 3 → Represents es w → ((x : ComputerState) → slice_get w.computers c ≡ Some x → o ≡ offer_answer x a (offered_by x bytes))
+    → o ≡ answer_in w.plant c a (history w.plant es) (state_read w.plant (modes.software c (history w.plant es)) bytes) (modes.mode c (history w.plant es))
+lie-answer es w a c bytes o c3 r is =
+    let h = history w.plant es in
+    let three = r.three in
+    let t = get-below w.computers c (omega arith) in
+    let x = r.computers c t.0 t.1 in
+    is t.0 t.1 ∙ (ap (offer_answer t.0 a) (lie-read w.plant c bytes h t.0 x) ∙ offer_answer-represents w.plant c a h (state_read w.plant (modes.software c h) bytes) t.0 x)
+
+-- ---- what is told, by its text
+
+-- the software of a computer is 1 or 2
+software-known : (c : ℕ) (h : List Moment) → IsSoftware (modes.software c h)
+unfolding modes.software
+software-known c [] = inl refl
+software-known c (m ∷ h) = by (is_upgrade c m.event) refl (software-known c h)
+  where
+    by : (b : Bool) → is_upgrade c m.event ≡ b → IsSoftware (modes.software c h) → IsSoftware (if is_upgrade c m.event then 2 else modes.software c h)
+    by true e i = rw e (inr refl)
+    by false e i = rw e i
+
+-- the text is read as the state that is told
+abbrev pub IsRead : ComputerState → Type 0
+IsRead y = (software : ℕ) (s : State) → IsSoftware software → y.control ≡ InControl s → state_read y.plant software (told_text y) ≡ told_state software y.software s
+
+module _ (a : ℕ) (y x : ComputerState) (same : x.plant ≡ y.plant) (known : IsSoftware x.software) (read : IsRead y) where
+  text-read : (s : State) → y.control ≡ InControl s → offered_by x (told_text y) ≡ told_state x.software y.software s
+  text-read s e = ap (λ p. state_read p x.software (told_text y)) same ∙ read x.software s known e
+
+  text-told : (k : Control) → y.control ≡ k → with_text a (Some y) x ≡ after_told a y.software k x
+  unfolding after_told
+  text-told (InControl s) e = subst (λ z. cond (is_live (mode_of z)) (after_offer x a (offered_by x (told_text y))) x ≡ after_offer x a (told_state x.software y.software s)) (sym e) (ap (after_offer x a) (text-read s e))
+  text-told ToAlign e = subst (λ z. cond (is_live (mode_of z)) (after_offer x a (offered_by x (told_text y))) x ≡ x) (sym e) refl
+  text-told SwitchedOff e = subst (λ z. cond (is_live (mode_of z)) (after_offer x a (offered_by x (told_text y))) x ≡ x) (sym e) refl
+
+  text-answered : (k : Control) → y.control ≡ k → text_answer a (Some y) (Some x) ≡ told_answer a y.software k x
+  unfolding told_answer
+  text-answered (InControl s) e = subst (λ z. cond (is_live (mode_of z)) (Some (offer_answer x a (offered_by x (told_text y)))) None ≡ Some (offer_answer x a (told_state x.software y.software s))) (sym e) (ap (λ r. Some (offer_answer x a r)) (text-read s e))
+  text-answered ToAlign e = subst (λ z. cond (is_live (mode_of z)) (Some (offer_answer x a (offered_by x (told_text y)))) None ≡ None) (sym e) refl
+  text-answered SwitchedOff e = subst (λ z. cond (is_live (mode_of z)) (Some (offer_answer x a (offered_by x (told_text y)))) None ≡ None) (sym e) refl
+
+module _ (es : List Event) (w : WorldState) (a c : ℕ) (a3 : a < 3) (c3 : c < 3) (r : Represents es w) (read : (y : ComputerState) → slice_get w.computers a ≡ Some y → IsRead y) where
+  pub tell-is : record w { computers = change_at w.computers c (with_text a (slice_get w.computers a)) } ≡ after w (Tell a c)
+  unfolding after
+  tell-is =
+      let three = r.three in
+      let y = get-below w.computers a (omega arith) in
+      let x = get-below w.computers c (omega arith) in
+      let ry = r.computers a y.0 y.1 in
+      let rx = r.computers c x.0 x.1 in
+      let known : IsSoftware x.0.software = subst IsSoftware (sym rx.software) (software-known c (history w.plant es)) in
+      let is = text-told a y.0 x.0 (rx.plant ∙ sym ry.plant) known (read y.0 y.1) y.0.control refl in
+      ap (λ xs. record w { computers = xs }) (subst (λ o. change_at w.computers c (with_text a o) ≡ change_at w.computers c (after_tell a o)) (sym y.1) (changed-alike w.computers c x.0 (with_text a (Some y.0)) (after_tell a (Some y.0)) x.1 is))
+
+  pub tell-answered : text_answer a (slice_get w.computers a) (slice_get w.computers c) ≡ answer_to_offer w.plant c a (history w.plant es) (offered w.plant (history w.plant es) (Tell a c))
+  tell-answered =
+      let three = r.three in
+      let y = get-below w.computers a (omega arith) in
+      let x = get-below w.computers c (omega arith) in
+      let ry = r.computers a y.0 y.1 in
+      let rx = r.computers c x.0 x.1 in
+      let known : IsSoftware x.0.software = subst IsSoftware (sym rx.software) (software-known c (history w.plant es)) in
+      let is = text-answered a y.0 x.0 (rx.plant ∙ sym ry.plant) known (read y.0 y.1) y.0.control refl in
+      ap (λ o. text_answer a o (slice_get w.computers c)) y.1 ∙ (ap (text_answer a (Some y.0)) x.1 ∙ (is ∙ tell-answer-represents w.plant c a (history w.plant es) y.0 x.0 ry rx))
 
 pub vote-answer : (es : List Event) (w : WorldState) (k : ℕ) (b : Ballot) → k < length w.plant.thrusters.items → Represents es w → ((v : VoterState) → slice_get w.voters k ≡ Some v → b ≡ voter_ballot v) → b ≡ ballot k (history w.plant es)
 vote-answer es w k b l r is =
@@ -374,6 +528,22 @@ module _ (p : Plant) (h : List Moment) (e : Event) where
   pub seen-stop : (c : ℕ) → e ≡ Stop c → SeenDone ≡ seen_of p h e
   unfolding seen_of
   seen-stop c is = rw is
+
+  pub seen-tell : (a c : ℕ) (o : Option Offer) → o ≡ answer_to_offer p c a h (offered p h (Tell a c)) → e ≡ Tell a c → SeenOffered o ≡ seen_of p h e
+  unfolding seen_of
+  seen-tell a c o q is = rw is (ap SeenOffered q)
+
+  pub seen-lie : (a c : ℕ) (bytes : ArrayVec ℕ) (text : List ℕ) (o : Offer) → o ≡ answer_in p c a h (state_read p (modes.software c h) text) (modes.mode c h) → text ≡ bytes.items → e ≡ Lie a c bytes → SeenOffered (Some o) ≡ seen_of p h e
+  unfolding seen_of offered offer_by answer_to_offer
+  seen-lie a c bytes text o q same is = rw is (ap (λ t. SeenOffered (Some t)) (q ∙ ap (λ z. answer_in p c a h (state_read p (modes.software c h) z) (modes.mode c h)) same))
+
+  pub seen-restart : (c : ℕ) → e ≡ Restart c → SeenDone ≡ seen_of p h e
+  unfolding seen_of
+  seen-restart c is = rw is
+
+  pub seen-upgrade : (c : ℕ) → e ≡ Upgrade c → SeenDone ≡ seen_of p h e
+  unfolding seen_of
+  seen-upgrade c is = rw is
 
 -- ---- a new world
 

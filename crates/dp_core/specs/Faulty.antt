@@ -4,7 +4,7 @@ use Rattle.std.specs.List.{list_any}
 use Rattle.dp_core.specs.Moment.{Moment, is_fault, is_skew, is_wire}
 use Rattle.dp_core.specs.Mode.{since_break}
 
--- c was skewed, or said a force, with no break of it since
+-- c was skewed, said a force or told a lie, with no break of it since
 unfoldable pub is_faulty : ℕ → List Moment → Bool
 is_faulty c h = list_any (λ m. is_fault c m.event) (since_break c h)
 

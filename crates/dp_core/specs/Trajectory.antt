@@ -8,8 +8,9 @@ use Rattle.dp_machine.specs.declared.issue.Issue.{Issue}
 use Rattle.dp_machine.specs.declared.state.State.{State}
 use Rattle.dp_machine.specs.Run.{own_setpoints, run_on}
 use Rattle.dp_machine.specs.Step.{first_state, rest_in}
-use Rattle.dp_core.specs.Moment.{Moment, is_base, is_break, issue_at, place_of_skew}
+use Rattle.dp_core.specs.Moment.{Moment, is_adoption, is_base, is_break, issue_at, place_of_skew, sender}
 use Rattle.dp_core.specs.Mode.{frames}
+use Rattle.dp_core.specs.Offered.{offer_by, state_in}
 
 -- the Runs of c that gave an issue, after its last break or base
 unfoldable pub runs : ℕ → List Moment → ℕ
@@ -18,17 +19,23 @@ runs c (m ∷ h) =
     if is_break c m || is_base c m then 0
     else (if is_some (issue_at c m) then runs c h + 1 else runs c h)
 
--- what a trajectory goes on from at its base, by what it had come to: a skewed one is at rest at
--- the skew's place
-unfoldable pub state_at_base : ℕ → Moment → State → State
-state_at_base c m s = rest_in s (unwrap_or (place_of_skew c m.event) zero_place)
+-- what a trajectory goes on from at its base: an adopted state, or the one that it had come to, at
+-- rest at the skew's place
+unfoldable pub state_at_base : ℕ → Moment → Option State → State → State
+state_at_base c m adopted s =
+    if is_adoption c m then unwrap_or adopted s
+    else rest_in s (unwrap_or (place_of_skew c m.event) zero_place)
 
--- the state that the trajectory of c starts from: the first one, or that of its last base
+-- the state that the trajectory of c starts from: the first one, or that of its last base; what is
+-- offered goes by the sender's own trajectory
 unfoldable pub base : Plant → ℕ → List Moment → State
 base p c [] = first_state p
 base p c (m ∷ h) =
     if is_base c m
-    then state_at_base c m (run_on p (own_setpoints p) (frames h) (base p c h) (runs c h))
+    then state_at_base c m
+    (state_in (offer_by p h m.event (run_on p (own_setpoints p) (frames h)
+    (base p (sender m.event) h) (runs (sender m.event) h))))
+    (run_on p (own_setpoints p) (frames h) (base p c h) (runs c h))
     else base p c h
 
 -- the state that the trajectory of c has come to

@@ -1,5 +1,5 @@
 -- What a world keeps, and what each event makes of it.
-use Rattle.std.specs.Prelude.{◌≡◌, ℕ, ◌+◌, ◌<◌, ◌^◌, List, map, length, ℤ, Option, Some, None, slice_get, slice_set}
+use Rattle.std.specs.Prelude.{◌≡◌, ◌≢◌, ℕ, ◌+◌, ◌<◌, ◌^◌, List, map, length, ℤ, Option, Some, None, if◌then◌else◌, slice_get, slice_set}
 use Rattle.dp_plant.specs.FrameRanges.{IsFrameInRange}
 use Rattle.dp_plant.specs.Ranges.{IsVectorWithin}
 use Rattle.dp_plant.specs.declared.plant.Plant.{Plant}
@@ -9,8 +9,10 @@ use Rattle.dp_voter.specs.Orders.{answer_of, ordered}
 use Rattle.dp_voter.specs.Ballots.{voted}
 use Rattle.dp_machine.specs.declared.issue.Issue.{Issue}
 use Rattle.dp_core.specs.declared.event.Event.{Event}
-use Rattle.dp_core.specs.declared.event.Event.TheVariants.{Wire, Run, Order, Vote, Skew, Say, Stop}
-use Rattle.dp_core.specs.ComputerState.{ComputerState, after_run, after_skew, after_stop, after_wire}
+use Rattle.dp_core.specs.declared.event.Event.TheVariants.{Wire, Run, Order, Tell, Vote, Skew, Say, Lie, Stop, Restart, Upgrade}
+use Rattle.dp_exchange.specs.ComputerState.{ComputerState, Control, InControl, SwitchedOff, ToAlign, after_offer, after_restart, after_run, after_skew, after_stop, after_upgrade, after_wire, is_live, mode_of, offer_answer, offered_by, told_text}
+use Rattle.dp_exchange.specs.declared.answers.Offer.{Offer}
+use Rattle.dp_exchange.specs.Offers.{told_state}
 use Rattle.dp_core.specs.Voting.{Message, message_of}
 
 pub record WorldState : Type 0 where
@@ -32,7 +34,11 @@ IsAllowed w (Order a k) = (a < 3) × (k < length w.plant.thrusters.items)
 IsAllowed w (Vote k) = k < length w.plant.thrusters.items
 IsAllowed w (Skew c at) = (c < 3) × IsVectorWithin (2 ^ 43) at
 IsAllowed w (Say a k cycle force) = (a < 3) × (k < length w.plant.thrusters.items)
+IsAllowed w (Tell a c) = (a < 3) × ((c < 3) × (a ≢ c))
+IsAllowed w (Lie a c bytes) = (a < 3) × ((c < 3) × (a ≢ c))
 IsAllowed w (Stop c) = c < 3
+IsAllowed w (Restart c) = c < 3
+IsAllowed w (Upgrade c) = c < 3
 
 -- one of them changed
 abbrev pub put_at : {A : Type 0} → List A → ℕ → (A → A) → Option A → List A
@@ -54,6 +60,36 @@ abbrev pub after_order : ℕ → Option Message → VoterState → VoterState
 after_order a None v = v
 after_order a (Some s) v = ordered v a s.force (answer_of v a s.cycle s.force)
 
+-- after an offer of computer a, of this software and control
+unfoldable pub after_told : ℕ → ℕ → Control → ComputerState → ComputerState
+after_told a software (InControl s) x = after_offer x a (told_state x.software software s)
+after_told a software ToAlign x = x
+after_told a software SwitchedOff x = x
+
+-- what it is answered then
+unfoldable pub told_answer : ℕ → ℕ → Control → ComputerState → Option Offer
+told_answer a software (InControl s) x =
+    Some (offer_answer x a (told_state x.software software s))
+told_answer a software ToAlign x = None
+told_answer a software SwitchedOff x = None
+
+-- after an offer of a text that computer a tells where it is live
+abbrev pub with_text : ℕ → Option ComputerState → ComputerState → ComputerState
+with_text a None x = x
+with_text a (Some y) x =
+    if is_live (mode_of y.control) then after_offer x a (offered_by x (told_text y)) else x
+
+-- what it is answered then
+abbrev pub text_answer : ℕ → Option ComputerState → Option ComputerState → Option Offer
+text_answer a (Some y) (Some x) =
+    if is_live (mode_of y.control) then Some (offer_answer x a (offered_by x (told_text y)))
+    else None
+text_answer a y x = None
+
+abbrev pub after_tell : ℕ → Option ComputerState → ComputerState → ComputerState
+after_tell a None x = x
+after_tell a (Some y) x = after_told a y.software y.control x
+
 unfoldable pub after : WorldState → Event → WorldState
 after w (Wire f) = record w {
   computers = map (λ x. after_wire x f) w.computers;
@@ -69,4 +105,16 @@ after w (Skew c at) = record w { computers = change_at w.computers c (λ x. afte
 after w (Say a k cycle force) = record w {
   voters = change_at w.voters k (λ v. ordered v a force (answer_of v a cycle force));
 }
+after w (Tell a c) = record w {
+  computers = change_at w.computers c (after_tell a (slice_get w.computers a));
+}
+after w (Lie a c bytes) = record w {
+  computers = change_at w.computers c (λ x. after_offer x a (offered_by x bytes.items));
+}
 after w (Stop c) = record w { computers = change_at w.computers c after_stop }
+after w (Restart c) = record w {
+  computers = change_at w.computers c (λ x. after_restart x w.cycles_begun);
+}
+after w (Upgrade c) = record w {
+  computers = change_at w.computers c (λ x. after_upgrade x w.cycles_begun);
+}

@@ -2,7 +2,7 @@
 use Rattle.std.specs.Prelude.{◌≡◌, ◌≤◌, ◌^◌, ℕ, length, Some, slice_get}
 use Rattle.dp_plant.specs.declared.voting.Mode.TheVariants.{Off}
 use Rattle.dp_core.specs.declared.world.World.TheInside.{Inside}
-use Rattle.dp_core.specs.ComputerState.{ComputerState, mode_of}
+use Rattle.dp_exchange.specs.ComputerState.{ComputerState, mode_of}
 use Rattle.dp_core.specs.WorldState.{WorldState}
 
 abbrev pub world_of : Inside → WorldState

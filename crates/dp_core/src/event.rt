@@ -1,4 +1,5 @@
-use crate::{Ballot, Heard, Place, Ran, Took};
+use crate::{Ballot, Heard, Offer, Place, Ran, Took};
+use arrayvec::ArrayVec;
 use dp_plant::Frame;
 
 /// What happens to the world: one thing at a time, in any order. Computers are numbered 0 to 2, voters as the plant's thrusters.
@@ -14,6 +15,11 @@ pub enum Event {
     Order {
         from: u8,
         voter: u8,
+    },
+    /// A live computer offers its state to another one, in the spelling of its own software.
+    Tell {
+        from: u8,
+        to: u8,
     },
     /// A voter gives the ballot of this cycle.
     Vote {
@@ -31,8 +37,22 @@ pub enum Event {
         cycle: u64,
         force: i64,
     },
+    /// A fault: a computer, whatever its mode, offers any bytes as its state to another one.
+    Lie {
+        from: u8,
+        to: u8,
+        bytes: ArrayVec<u8, 4096>,
+    },
     /// A computer is switched off.
     Stop {
+        c: u8,
+    },
+    /// A computer is started again: it waits for two others to offer the same state.
+    Restart {
+        c: u8,
+    },
+    /// A computer is started again with the newer software.
+    Upgrade {
         c: u8,
     },
 }
@@ -46,10 +66,12 @@ pub enum Seen {
     Ran(Ran),
     /// Of an Order and a Say: the voter's answer; none where the computer has no last issue, so of an Order alone.
     Sent(Option<Took>),
+    /// Of a Tell and a Lie: the answer of the one that is offered a state; none where the sender isn't live, so of a Tell alone.
+    Offered(Option<Offer>),
     /// Of a Vote.
     Voted(Ballot),
     /// Of a Skew: whether the computer was live.
     Skewed(bool),
-    /// Of a Stop.
+    /// Of a Stop, a Restart and an Upgrade.
     Done,
 }

@@ -1,5 +1,5 @@
 //! What holds of every list of events: each function's contract is the law.
-ghost use Rattle.dp_core.specs.{FreshIsReference, SkewedIsFaulty, TakenIsOwn};
+ghost use Rattle.dp_core.specs.{AdoptedIsReference, FreshIsReference, HeldIsOwn, SkewedIsFaulty, TakenIsOwn};
 ghost use Rattle.dp_core.specs.{TrajectoriesAreReference, TwoHeardAreFresh};
 
 use dp_machine::laws::issues_are_within_limits;
@@ -9,6 +9,12 @@ use dp_voter::laws::{fresh_is_right, two_right_are_fresh};
 /// the reference run after the frames that it has done.
 pub fn trajectories_are_reference()
     ensures { TrajectoriesAreReference }
+{}
+
+/// With at most one faulty computer in any cycle, a computer that adopts a state is live with the reference run's, and from then on, until
+/// it is broken or skewed, its state and its issues are the reference run's.
+pub fn adopted_is_reference()
+    ensures { AdoptedIsReference }
 {}
 
 /// A computer that isn't faulty isn't skewed.
@@ -26,6 +32,11 @@ pub fn fresh_is_reference()
 /// The force that a voter takes from a computer's last issue is one of that computer's own trajectory, for this cycle.
 pub fn taken_is_own()
     ensures { TakenIsOwn }
+{}
+
+/// So is each force that a voter holds of a computer in whose name none was said to it in this cycle.
+pub fn held_is_own()
+    ensures { HeldIsOwn }
 {}
 
 /// Where no case of the plant is refused ([`dp_alloc::first_refused`]), and the issues of two computers that aren't faulty are delivered

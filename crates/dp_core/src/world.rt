@@ -1,19 +1,25 @@
 //! Three computers and a voter for each thruster: what each event does to them.
-ghost use Rattle.std.specs.Prelude.{◌≡◌, ◌<◌, ◌≤ℤ◌, ◌^◌, ◌==◌, ℕ, suc, List, [], ◌∷◌, IfOk, map, length, Some, slice_get, option_copied};
+ghost use Rattle.std.specs.Prelude.{◌≡◌, ◌≢◌, ◌<◌, ◌≤ℤ◌, ◌^◌, ◌==◌, ℕ, suc, List, [], ◌∷◌, IfOk, map, length, Some, slice_get, option_copied};
 ghost use Rattle.std.specs.Option.{option_map};
 ghost use Rattle.dp_plant.specs.{IsFrameInRange, IsVectorWithin};
 ghost use Rattle.dp_machine.specs.{IsAcceptedPlant};
 ghost use Rattle.dp_core.specs.{Event, IsAllowed, IsInStep, Thruster, VoterState, after, after_wire, alarms_in, answer, answer_if, answer_of};
-ghost use Rattle.dp_core.specs.{answer_to_run, answers_to_wire, ballot, begun, cycle_alarms, history, is_live, last_issue, last_of};
+ghost use Rattle.dp_core.specs.{IsLeftOf, IsMachineOf, answer_in, answer_to_offer, answer_to_run, answers_to_wire, ballot, begun, change_at, cycle_alarms, history};
+ghost use Rattle.dp_core.specs.{is_live, last_issue, last_of, offered, software, spelling_at, text_answer, told_text};
+ghost use Rattle.dp_core.specs.{with_text};
 ghost use Rattle.dp_core.specs.{message_by, message_of, mode, seen_of, taken_forces, voter_of, wire_answer};
-ghost use Rattle.dp_core.specs.ComputerState.{ComputerState};
+ghost use Rattle.dp_codec.specs.{IsSoftware, state_read};
+ghost use Rattle.dp_exchange.specs.ComputerState.{ComputerState, InControl};
+ghost use Rattle.dp_exchange.specs.Offers.{told_state};
+ghost use Rattle.dp_machine.specs.Machine.{MachineValue};
+ghost use Rattle.dp_machine.specs.declared.state.State.{State};
 ghost use Rattle.dp_core.specs.Represents.{Represents};
-ghost use Rattle.dp_core.specs.declared.event.Event.TheVariants.{Wire, Run, Order, Vote, Skew, Say, Stop};
+ghost use Rattle.dp_core.specs.declared.event.Event.TheVariants.{Wire, Run, Order, Tell, Vote, Skew, Say, Lie, Stop, Restart, Upgrade};
 
-use crate::computer::Computer;
-use crate::{Alarms, Ballot, Event, Heard, Issue, Mode, Place, Ran, Seen, Took};
+use crate::{Alarms, Ballot, Event, Heard, Issue, Machine, Mode, Offer, Place, Ran, Seen, Took};
 use arrayvec::ArrayVec;
 use dp_cert::Accepted;
+use dp_exchange::Computer;
 use dp_plant::{Frame, Memory, Plant};
 use dp_voter::Voter;
 use std::alloc::Global;
@@ -26,6 +32,8 @@ pub struct World {
     computers: [Computer; 3],
     voters: ArrayVec<Voter, 12>,
     cycles_begun: u64,
+    /// What one computer tells another, while it does.
+    text: ArrayVec<u8, 4096>,
 }
 
 impl Model for World {
@@ -61,6 +69,7 @@ impl World {
             computers: [first, second, third],
             voters: voters_of(plant),
             cycles_begun: 0,
+            text: ArrayVec::new(),
         })
     }
 
@@ -77,6 +86,7 @@ impl World {
             Event::Wire(f) => Seen::Heard(self.wire(f)),
             Event::Run { c } => Seen::Ran(self.run(*c)),
             Event::Order { from, voter } => Seen::Sent(self.order(*from, *voter)),
+            Event::Tell { from, to } => Seen::Offered(self.tell(*from, *to)),
             Event::Vote { voter } => Seen::Voted(self.vote(*voter)),
             Event::Skew { c, at } => Seen::Skewed(self.skew(*c, *at)),
             Event::Say {
@@ -85,8 +95,19 @@ impl World {
                 cycle,
                 force,
             } => Seen::Sent(Some(self.say(*from, *voter, *cycle, *force))),
+            Event::Lie { from, to, bytes } => {
+                Seen::Offered(Some(self.lie(*from, *to, bytes.as_slice())))
+            }
             Event::Stop { c } => {
                 self.stop(*c);
+                Seen::Done
+            }
+            Event::Restart { c } => {
+                self.restart(*c);
+                Seen::Done
+            }
+            Event::Upgrade { c } => {
+                self.upgrade(*c);
                 Seen::Done
             }
         }
@@ -136,6 +157,37 @@ impl World {
         Some(self.deliver(from, voter, cycle, force))
     }
 
+    /// A computer offers its state to another one, in the spelling of its own software; none where it isn't live.
+    pub fn tell(&mut self, from: u8, to: u8) -> Option<Offer>
+        requires from { from < 3 }
+        requires to { to < 3 }
+        requires two { from ≢ to }
+        ensures represents { (es : List Event) → Represents es self.old
+            → Represents (Tell from to ∷ es) self.new }
+        ensures answer { (es : List Event) → Represents es self.old
+            → result ≡ answer_to_offer self.old.plant to from (history self.old.plant es)
+            (offered self.old.plant (history self.old.plant es) (Tell from to)) }
+        ensures plant { self.new.plant ≡ self.old.plant }
+    {
+        tell_between(&mut self.computers, from, to, &mut self.text)
+    }
+
+    /// A fault: a computer, whatever its mode, offers any bytes as its state to another one.
+    pub fn lie(&mut self, from: u8, to: u8, bytes: &[u8]) -> Offer
+        requires from { from < 3 }
+        requires to { to < 3 }
+        requires two { from ≢ to }
+        ensures represents { (es : List Event) → Represents es self.old
+            → Represents (Lie from to (record { items = bytes.now }) ∷ es) self.new }
+        ensures answer { (es : List Event) → Represents es self.old
+            → result ≡ answer_in self.old.plant to from (history self.old.plant es)
+            (state_read self.old.plant (software to (history self.old.plant es)) bytes.now)
+            (mode to (history self.old.plant es)) }
+        ensures plant { self.new.plant ≡ self.old.plant }
+    {
+        self.computers[to as usize].offer(from, bytes)
+    }
+
     /// A fault: a computer, whatever its mode, orders any force, in newtons, of any cycle.
     pub fn say(&mut self, from: u8, voter: u8, cycle: u64, force: i64) -> Took
         requires computer { from < 3 }
@@ -183,6 +235,28 @@ impl World {
         ensures plant { self.new.plant ≡ self.old.plant }
     {
         self.computers[c as usize].stop();
+    }
+
+    /// A computer is started again: it waits for two others to offer the same state.
+    pub fn restart(&mut self, c: u8)
+        requires { c < 3 }
+        ensures represents { (es : List Event) → Represents es self.old
+            → Represents (Restart c ∷ es) self.new }
+        ensures plant { self.new.plant ≡ self.old.plant }
+    {
+        let next = self.cycles_begun;
+        self.computers[c as usize].restart(next);
+    }
+
+    /// A computer is started again with the newer software.
+    pub fn upgrade(&mut self, c: u8)
+        requires { c < 3 }
+        ensures represents { (es : List Event) → Represents es self.old
+            → Represents (Upgrade c ∷ es) self.new }
+        ensures plant { self.new.plant ≡ self.old.plant }
+    {
+        let next = self.cycles_begun;
+        self.computers[c as usize].upgrade(next);
     }
 
     /// The plant that all of it is about.
@@ -238,6 +312,27 @@ impl World {
             ∷ cycle_alarms 2 (history self.now.plant es) ∷ [] }
     {
         [self.alarms_of(0), self.alarms_of(1), self.alarms_of(2)]
+    }
+
+    /// Replaces the content by the spelling, in the version of its software, of a computer's state with the vessel at rest at a place,
+    /// and answers true, where the computer is live; else empties it.
+    pub fn spell_at(&self, c: u8, at: Place, into: &mut ArrayVec<u8, 4096>) -> bool
+        requires { c < 3 }
+        ensures answer { (es : List Event) → Represents es self.now
+            → result ≡ is_live (mode c (history self.now.plant es)) }
+        ensures text { (es : List Event) → Represents es self.now
+            → into.new.items ≡ spelling_at self.now.plant c (history self.now.plant es) at }
+    {
+        self.computers[c as usize].spell_at(at, into)
+    }
+
+    /// Its three machines: each has taken as many steps as its computer ran over frames, and has its state where it is live.
+    pub fn end(self) -> [Machine; 3]
+        ensures { (es : List Event) → Represents es self
+            → (c : ℕ) (m : MachineValue) → slice_get result c ≡ Some m
+            → IsMachineOf self.plant c (history self.plant es) m }
+    {
+        ends(self.computers)
     }
 
     #[tactic(auto, unfolding(crate::specs::CycleAlarms::alarms_in))]
@@ -302,10 +397,43 @@ fn wire_all(computers: &mut [Computer; 3], f: &Frame) -> [Heard; 3]
     ensures answers { result ≡ map wire_answer computers.old }
 {
     [
-        computers[0].wire(f),
-        computers[1].wire(f),
-        computers[2].wire(f),
+        computers[0].hear(f),
+        computers[1].hear(f),
+        computers[2].hear(f),
     ]
+}
+
+/// One computer offers its state to another, by a text; none where it isn't live.
+fn tell_between(
+    computers: &mut [Computer; 3],
+    from: u8,
+    to: u8,
+    text: &mut ArrayVec<u8, 4096>,
+) -> Option<Offer>
+    requires from { from < 3 }
+    requires to { to < 3 }
+    ensures new { computers.new
+        ≡ change_at computers.old to (with_text from (slice_get computers.old from)) }
+    ensures answer { result
+        ≡ text_answer from (slice_get computers.old from) (slice_get computers.old to) }
+
+    // What is told is read by each software that knows the version, and by no other.
+    ensures read { (y : ComputerState) → slice_get computers.old from ≡ Some y
+        → (software : ℕ) (s : State) → IsSoftware software → y.control ≡ InControl s
+        → state_read y.plant software (told_text y) ≡ told_state software y.software s }
+{
+    if !computers[from as usize].tell(text) {
+        return None;
+    }
+    Some(computers[to as usize].offer(from, text.as_slice()))
+}
+
+fn ends(computers: [Computer; 3]) -> [Machine; 3]
+    ensures { (c : ℕ) (x : ComputerState) (m : MachineValue) → slice_get computers c ≡ Some x
+        → slice_get result c ≡ Some m → IsLeftOf x m }
+{
+    let [first, second, third] = computers;
+    [first.end(), second.end(), third.end()]
 }
 
 fn begin_all(voters: &mut ArrayVec<Voter, 12>, cycle: u64)

@@ -1,4 +1,5 @@
 pub mod Hearing
+pub mod Hexadecimals
 pub mod Naming
 pub mod Phrases
 pub mod Pushes

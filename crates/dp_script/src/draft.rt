@@ -54,8 +54,8 @@ impl Draft {
         ensures heard { OnOk result
             ((before : List (List ℕ)) → IsDraftOf self.old before
             → IsDraftOf self.new (line.now ∷ before)) }
-        ensures fault { IfErr result (λ fault. fault ≢ Memory → (before : List (List ℕ)) → IsDraftOf self.old before
-            → first_fault (line.now ∷ before) ≡ Some fault) }
+        ensures fault { IfErr result (λ fault. fault ≢ Memory → (before : List (List ℕ))
+            → IsDraftOf self.old before → first_fault (line.now ∷ before) ≡ Some fault) }
     {
         match self.judge(line) {
             Ok(None) => {

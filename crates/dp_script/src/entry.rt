@@ -1,9 +1,9 @@
 ghost use Rattle.std.specs.Prelude.{◌≡◌, ◌<◌, ◌≤◌, ◌^◌, IfOk, unsigned_abs};
-ghost use Rattle.dp_script.specs.{IsGiven, acts_of, below_of, entry_of, near_of};
+ghost use Rattle.dp_script.specs.{IsGiven, acts_of, below_of, entry_of, near_of, other_of, single_of, told_of};
 
 use crate::ScriptKind;
 use crate::act::Act;
-use crate::command::{Command, phrase_read};
+use crate::command::{Command, Message, Single, phrase_read};
 
 /// Computers are 0 to 2.
 const COMPUTERS: u8 = 3;
@@ -46,20 +46,13 @@ pub fn entry_read(line: &[u8]) -> Result<Entry, ScriptKind>
 /// The acts of a command whose numbers are within their ranges.
 #[tactic(auto, unfolding(crate::specs::Entries::acts_of))]
 fn acts_read(command: Command) -> Result<Acts, ScriptKind>
-    ensures value { result ≡ acts_of command }
-    ensures within { IfOk result IsGiven }
+    ensures { result ≡ acts_of command }
 {
     Ok(Acts::One(match command {
         Command::Usual => return Ok(Acts::Usual),
-        Command::Run { c } => Act::Run {
-            c: below(c, COMPUTERS)?,
-        },
         Command::Order { c, k } => Act::Order {
             c: below(c, COMPUTERS)?,
             k: below(k, VOTERS)?,
-        },
-        Command::Orders { c } => Act::Orders {
-            c: below(c, COMPUTERS)?,
         },
         Command::Skew { c, north, east } => Act::Skew {
             c: below(c, COMPUTERS)?,
@@ -70,10 +63,43 @@ fn acts_read(command: Command) -> Result<Acts, ScriptKind>
             k: below(k, VOTERS)?,
             force: near(force, STRONGEST)?,
         },
-        Command::Stop { c } => Act::Stop {
-            c: below(c, COMPUTERS)?,
-        },
+        Command::Single { verb, c } => single(verb, below(c, COMPUTERS)?),
+        Command::Exchange { a, b, message } => {
+            let a = below(a, COMPUTERS)?;
+            told(a, other(a, b)?, message)?
+        }
     }))
+}
+
+/// The act of a verb that names one computer alone.
+fn single(verb: Single, c: u8) -> Act
+    ensures { result ≡ single_of verb c }
+{
+    match verb {
+        Single::Run => Act::Run { c },
+        Single::Orders => Act::Orders { c },
+        Single::Stop => Act::Stop { c },
+        Single::Restart => Act::Restart { c },
+        Single::Upgrade => Act::Upgrade { c },
+    }
+}
+
+/// The act in which computer `a` tells computer `b`.
+#[tactic(auto, unfolding(crate::specs::Entries::told_of))]
+fn told(a: u8, b: u8, message: Message) -> Result<Act, ScriptKind>
+    ensures { result ≡ told_of a b message }
+{
+    Ok(match message {
+        Message::Own => Act::Tell { a, b },
+        Message::AtRest { north, east } => {
+            let at = (near(north, FARTHEST)?, near(east, FARTHEST)?);
+            Act::Lie { a, b, at }
+        }
+        Message::Bytes(bytes) => {
+            let bytes = bytes.ok_or(ScriptKind::Range)?;
+            Act::Junk { a, b, bytes }
+        }
+    })
 }
 
 /// A number below a limit.
@@ -86,6 +112,16 @@ fn below(number: u64, limit: u8) -> Result<u8, ScriptKind>
     } else {
         Err(ScriptKind::Range)
     }
+}
+
+/// Another computer than `a`.
+fn other(a: u8, number: u64) -> Result<u8, ScriptKind>
+    ensures { result ≡ other_of a number }
+{
+    if number == u64::from(a) {
+        return Err(ScriptKind::Range);
+    }
+    below(number, COMPUTERS)
 }
 
 /// A number at most a limit away from zero.

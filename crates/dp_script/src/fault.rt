@@ -8,11 +8,12 @@ use std::alloc::AllocError;
 pub enum ScriptKind {
     /// No verb of the table, a wrong number of parts, or more than 192 bytes.
     Verb,
-    /// A part isn't a number.
+    /// A part isn't a number, or isn't hexadecimal text.
     Number,
     /// The cycle is before that of the last line that wasn't skipped.
     Order,
-    /// A number is outside its range, or the line is past the 2^16th that isn't skipped.
+    /// A number is outside its range, two computers are the same, hexadecimal text isn't of 2 to 128 digits or of an even number, or the line
+    /// is past the 2^16th that isn't skipped.
     Range,
 }
 

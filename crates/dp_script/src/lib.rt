@@ -12,22 +12,28 @@
 //! | `7 run C` | computer C runs |
 //! | `7 order C K` | the order of computer C goes to voter K |
 //! | `7 orders C` | the order of computer C goes to each voter, in rising order |
+//! | `7 tell A B` | computer A tells computer B its state |
 //! | `7 skew C NORTH EAST` | computer C goes on from another place, in nanometres |
 //! | `7 say C K FORCE` | voter K hears an order of computer C for this cycle with this force, in newtons |
+//! | `7 lie A B NORTH EAST` | computer B is told, as if by computer A, A's state at rest at another place, in nanometres |
+//! | `7 junk A B HEX` | computer B is told these bytes, as if by computer A |
 //! | `7 stop C` | computer C stops |
+//! | `7 restart C` | computer C begins anew, without a state, and hears frames from the next cycle on |
+//! | `7 upgrade C` | the same, and computer C has version 2 of the software from then on |
 //!
 //! So `7 skew 1 1000000000 -5` moves computer 1 to one metre north and 5 nm west of the origin in cycle 7.
 //!
 //! Numbers are decimal, of 1 to 18 digits, with an optional `-` for places and forces only, and no `+`. Cycles are below 2^20,
-//! computers 0 to 2, voters 0 to 11; a coordinate is within ±2^43, a force within ±2^62.
+//! computers 0 to 2, voters 0 to 11; a coordinate is within ±2^43, a force within ±2^62. Where two computers are named, they differ. HEX is
+//! 2 to 128 hexadecimal digits in lower case, an even number; two make a byte, so `01ff` are the bytes 1 and 255.
 //!
 //! The acts of a cycle are those of the lines that name it, in order. A cycle that no line names has the usual six.
 //!
 //! The first faulty line is named, lines counted from 1. Its fault is the first of these:
 //!
 //! 1. `Verb`: no verb of the table, a wrong number of parts, or more than 192 bytes.
-//! 2. `Number`: a part isn't a number.
-//! 3. `Range`: a number is outside its range, or 2^16 lines before it weren't skipped.
+//! 2. `Number`: a part isn't a number, or HEX has another byte than such a digit.
+//! 3. `Range`: a number is outside its range, A and B are equal, HEX has a wrong length, or 2^16 lines before it weren't skipped.
 //! 4. `Order`: the cycle is less than that of the last line before it that wasn't skipped.
 //!
 //! `specs/` has this as definitions on the whole text: what a line says (`Commands`, `Entries`), the first faulty line, each judged with
@@ -63,6 +69,7 @@ mod draft;
 mod entry;
 mod fault;
 mod generator;
+mod hexadecimal;
 pub mod laws;
 mod made_line;
 mod maker;

@@ -91,12 +91,10 @@ impl Script {
         requires within { IsGiven entry.acts }
         ensures ok { OnOk result (self.new ≡ self.old ++ timed_acts_of entry) }
     {
-        match entry.acts {
-            Acts::Usual => self.push_usual(entry.cycle),
-            Acts::One(act) => self.push(TimedAct {
-                cycle: entry.cycle,
-                act,
-            }),
+        let Entry { cycle, acts } = entry;
+        match acts {
+            Acts::Usual => self.push_usual(cycle),
+            Acts::One(act) => self.push(TimedAct { cycle, act }),
         }
     }
 

@@ -15,6 +15,8 @@ mod codec;
 #[cfg(test)]
 mod consequence;
 #[cfg(test)]
+mod exchange;
+#[cfg(test)]
 mod fuse;
 #[cfg(test)]
 mod machine;

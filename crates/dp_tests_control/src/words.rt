@@ -1,6 +1,7 @@
 //! What the words of a row say: numbers below a bound, ballots, orders and a voter's answers.
 ghost use Rattle.std.specs.Prelude.{◌<◌};
 
+use dp_exchange::Offer;
 use dp_plant::Ballot;
 use dp_test_rows::{natural, number, parts};
 use dp_voter::Took;
@@ -47,5 +48,24 @@ fn is_order(order: Option<i64>, wanted: &str) -> bool {
     match order {
         None => wanted == "-",
         Some(force) => wanted != "-" && force == number(wanted),
+    }
+}
+
+/// A computer's answer to an offer is the one that is wanted: `kept`, `adopted`, `unasked`, `bad,PLACE`, `new,COUNT,NEXT` or
+/// `old,COUNT,OLDEST`.
+pub fn is_offer(offer: Offer, wanted: &str) -> bool {
+    let [word, said, other, _, _] = parts(wanted);
+    match offer {
+        Offer::Kept => word == "kept",
+        Offer::Adopted => word == "adopted",
+        Offer::NotAligning => word == "unasked",
+        Offer::BadState { place } => word == "bad" && place as u64 == natural(said),
+        Offer::TooNew { state_cycle, next } => {
+            word == "new" && state_cycle == natural(said) && next == natural(other)
+        }
+        Offer::TooOld {
+            state_cycle,
+            oldest,
+        } => word == "old" && state_cycle == natural(said) && oldest == natural(other),
     }
 }

@@ -4,6 +4,8 @@
 //! numbers behind its word.
 use dp_sentence::{Damage, Sentence, read};
 use dp_test_rows::{cut, natural};
+use std::alloc::Global;
+use std::test::Fail;
 
 #[test]
 fn sentences_are_read(rt: HostRuntime) {
@@ -45,6 +47,26 @@ fn lines_are_damaged(rt: HostRuntime) {
         let damage = read(line.as_bytes()).err().expect(&rt, "a damaged line");
         assert!(rt; is_damage(damage, wanted), "{row}");
     }
+}
+
+/// Each byte of a sentence is replaced by one that stands in none.
+#[test]
+fn hurt_sentences_are_damaged(rt: HostRuntime) -> Result<(), Fail> {
+    let line = "$GPGGA,123519,4807.038,N,01131.000,E,1,08,0.9,545.4,M,46.9,M,,*47";
+    for at in 0..line.len() {
+        assert!(rt; is_hurt(rt.alloc(), line, at, 0)?, "0 at {at}");
+        assert!(rt; is_hurt(rt.alloc(), line, at, 0x80)?, "0x80 at {at}");
+    }
+    Ok(())
+}
+
+/// A sentence with this byte at a place is damaged.
+fn is_hurt(alloc: Global, line: &str, at: usize, byte: u8) -> Result<bool, Fail> {
+    let mut hurt = line.as_bytes().to_vec(alloc)?;
+    if let Some(old) = hurt.get_mut(at) {
+        *old = byte;
+    }
+    Ok(read(&hurt).is_err())
 }
 
 fn is_damage(damage: Damage, wanted: &str) -> bool {

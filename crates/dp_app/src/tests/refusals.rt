@@ -20,8 +20,8 @@ fn scripts_are_judged(rt: HostRuntime) -> Result<(), Fail> {
         "0 usual\n0 fly 0\n0 run x\n\
          ~0 pos0 L 9 9\n\
          ~8~fault script 2 verb\n",
-        // lie
-        "0 lie 0 1 0 0\n\
+        // a verb with a letter too many
+        "0 lies 0 1 0 0\n\
          ~0 pos0 L 9 9\n\
          ~8~fault script 1 verb\n",
         // a wrong number of parts

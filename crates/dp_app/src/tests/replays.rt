@@ -211,3 +211,93 @@ fn overrun_computers_are_played(rt: HostRuntime) -> Result<(), Fail> {
     }
     Ok(())
 }
+
+/// States that are told, lied about and taken, and new software: how a computer comes back.
+#[test]
+fn exchanged_states_are_played(rt: HostRuntime) -> Result<(), Fail> {
+    let rows = [
+        // a stopped computer comes back, with two frames waiting
+        "1 stop 2\n1 usual\n2 restart 2\n2 usual\n3 orders 0\n4 tell 0 2\n4 tell 1 2\n4 run 0\n4 run 0\n4 run 1\n4 run 1\n4 run 2\n4 run 2\n4 orders 0\n4 orders 1\n4 orders 2\n\
+         ~0 pos0 L 1000 0\n0 pos1 L 1000 0\n0 pos2 L 1000 0\n1000 pos0 L 1000 0\n1000 pos1 L 1000 0\n1000 pos2 L 1000 0\n2000 pos0 L 1000 0\n2000 pos1 L 1000 0\n2000 pos2 L 1000 0\n3000 pos0 L 1000 0\n3000 pos1 L 1000 0\n3000 pos2 L 1000 0\n4000 pos0 L 1000 0\n4000 pos1 L 1000 0\n4000 pos2 L 1000 0\n\
+         ~0~cycle 0 LLL\nt0 F 0 0 0 0\nt1 F 0 0 0 0\nt2 F 0 0 0 0\ncycle 1 LLO\nt0 F -68360 -68360 -68360 -\nt1 F 0 0 0 -\nt2 F 0 0 0 -\ncycle 2 LLA\nt0 F -131397 -131397 -131397 -\nt1 F 0 0 0 -\nt2 F 0 0 0 -\ncycle 3 LLA\nt0 H -131397 - - -\nt1 H 0 - - -\nt2 H 0 - - -\ncycle 4 LLL\nt0 F -242480 -242480 -242480 -242480\nt1 F 0 0 0 0\nt2 F 0 0 0 0\nend 5\n",
+        // a lie to one that comes back, and then the truth
+        "2 restart 2\n2 usual\n2 tell 0 2\n2 lie 1 2 1000000000 0\n3 usual\n3 tell 0 2\n3 tell 1 2\n\
+         ~0 pos0 L 1000 0\n0 pos1 L 1000 0\n0 pos2 L 1000 0\n1000 pos0 L 1000 0\n1000 pos1 L 1000 0\n1000 pos2 L 1000 0\n2000 pos0 L 1000 0\n2000 pos1 L 1000 0\n2000 pos2 L 1000 0\n3000 pos0 L 1000 0\n3000 pos1 L 1000 0\n3000 pos2 L 1000 0\n\
+         ~0~cycle 0 LLL\nt0 F 0 0 0 0\nt1 F 0 0 0 0\nt2 F 0 0 0 0\ncycle 1 LLL\nt0 F -68360 -68360 -68360 -68360\nt1 F 0 0 0 0\nt2 F 0 0 0 0\ncycle 2 LLA\nt0 F -131397 -131397 -131397 -\nt1 F 0 0 0 -\nt2 F 0 0 0 -\ncycle 3 LLL\nt0 F -189356 -189356 -189356 -\nt1 F 0 0 0 -\nt2 F 0 0 0 -\nend 4\n",
+        // new software on each computer in turn; software 1 reads nothing of software 2
+        "1 upgrade 2\n1 usual\n2 usual\n2 tell 0 2\n2 tell 1 2\n3 upgrade 1\n3 usual\n3 tell 0 1\n3 tell 2 1\n4 restart 0\n4 usual\n4 tell 1 0\n4 tell 2 0\n5 upgrade 0\n5 usual\n5 tell 1 0\n5 tell 2 0\n\
+         ~0 pos0 L 1000 0\n0 pos1 L 1000 0\n0 pos2 L 1000 0\n1000 pos0 L 1000 0\n1000 pos1 L 1000 0\n1000 pos2 L 1000 0\n2000 pos0 L 1000 0\n2000 pos1 L 1000 0\n2000 pos2 L 1000 0\n3000 pos0 L 1000 0\n3000 pos1 L 1000 0\n3000 pos2 L 1000 0\n4000 pos0 L 1000 0\n4000 pos1 L 1000 0\n4000 pos2 L 1000 0\n5000 pos0 L 1000 0\n5000 pos1 L 1000 0\n5000 pos2 L 1000 0\n\
+         ~0~cycle 0 LLL\nt0 F 0 0 0 0\nt1 F 0 0 0 0\nt2 F 0 0 0 0\ncycle 1 LLA\nt0 F -68360 -68360 -68360 -\nt1 F 0 0 0 -\nt2 F 0 0 0 -\ncycle 2 LLL\nt0 F -131397 -131397 -131397 -\nt1 F 0 0 0 -\nt2 F 0 0 0 -\ncycle 3 LLL\nt0 F -189356 -189356 - -189356\nt1 F 0 0 - 0\nt2 F 0 0 - 0\ncycle 4 ALL\nt0 F -242480 - -242480 -242480\nt1 F 0 - 0 0\nt2 F 0 - 0 0\ncycle 5 LLL\nt0 F -291005 - -291005 -291005\nt1 F 0 - 0 0\nt2 F 0 - 0 0\nend 6\n",
+        // one liar after another: 1 says, starts again and comes back; then 2 is skewed
+        "1 say 1 0 999\n1 usual\n2 restart 1\n2 run 0\n2 run 2\n2 tell 0 1\n2 tell 2 1\n2 orders 0\n2 orders 2\n3 skew 2 1000000000 0\n3 usual\n\
+         ~0 pos0 L 1000 0\n0 pos1 L 1000 0\n0 pos2 L 1000 0\n1000 pos0 L 1000 0\n1000 pos1 L 1000 0\n1000 pos2 L 1000 0\n2000 pos0 L 1000 0\n2000 pos1 L 1000 0\n2000 pos2 L 1000 0\n3000 pos0 L 1000 0\n3000 pos1 L 1000 0\n3000 pos2 L 1000 0\n\
+         ~0~cycle 0 LLL\nt0 F 0 0 0 0\nt1 F 0 0 0 0\nt2 F 0 0 0 0\ncycle 1 LLL\nt0 F -68360 -68360 999 -68360\nt1 F 0 0 0 0\nt2 F 0 0 0 0\ncycle 2 LLL\nt0 F -131397 -131397 - -131397\nt1 F 0 0 - 0\nt2 F 0 0 - 0\ncycle 3 LLL\nt0 F -189356 -189356 -189356 -156250\nt1 F 0 0 0 0\nt2 F 0 0 0 0\nend 4\n",
+        // a stopped computer says; an aligning one lies and sends junk; one computer alone brings nobody back
+        "1 stop 1\n1 say 1 0 777\n1 usual\n2 restart 1\n2 restart 2\n2 usual\n3 run 0\n3 tell 0 1\n3 lie 2 1 5 5\n3 junk 2 1 4450533100\n3 junk 2 1 00\n3 orders 0\n4 run 0\n4 tell 0 1\n4 tell 0 1\n4 tell 0 2\n4 orders 0\n\
+         ~0 pos0 L 1000 0\n0 pos1 L 1000 0\n0 pos2 L 1000 0\n1000 pos0 L 1000 0\n1000 pos1 L 1000 0\n1000 pos2 L 1000 0\n2000 pos0 L 1000 0\n2000 pos1 L 1000 0\n2000 pos2 L 1000 0\n3000 pos0 L 1000 0\n3000 pos1 L 1000 0\n3000 pos2 L 1000 0\n4000 pos0 L 1000 0\n4000 pos1 L 1000 0\n4000 pos2 L 1000 0\n\
+         ~0~cycle 0 LLL\nt0 F 0 0 0 0\nt1 F 0 0 0 0\nt2 F 0 0 0 0\ncycle 1 LOL\nt0 F -68360 -68360 777 -68360\nt1 F 0 0 - 0\nt2 F 0 0 - 0\ncycle 2 LAA\nt0 H -68360 -131397 - -\nt1 H 0 0 - -\nt2 H 0 0 - -\ncycle 3 LAA\nt0 H -68360 -189356 - -\nt1 H 0 0 - -\nt2 H 0 0 - -\ncycle 4 LAA\nt0 H -68360 -242480 - -\nt1 H 0 0 - -\nt2 H 0 0 - -\nend 5\n",
+        // offers to a live and to a stopped computer do nothing; nor does a lie of one that isn't live
+        "1 usual\n1 tell 0 1\n1 lie 0 1 7 7\n1 stop 2\n1 tell 0 2\n1 tell 1 2\n1 lie 2 0 7 7\n1 tell 2 0\n2 usual\n\
+         ~0 pos0 L 1000 0\n0 pos1 L 1000 0\n0 pos2 L 1000 0\n1000 pos0 L 1000 0\n1000 pos1 L 1000 0\n1000 pos2 L 1000 0\n2000 pos0 L 1000 0\n2000 pos1 L 1000 0\n2000 pos2 L 1000 0\n\
+         ~0~cycle 0 LLL\nt0 F 0 0 0 0\nt1 F 0 0 0 0\nt2 F 0 0 0 0\ncycle 1 LLO\nt0 F -68360 -68360 -68360 -68360\nt1 F 0 0 0 0\nt2 F 0 0 0 0\ncycle 2 LLO\nt0 F -131397 -131397 -131397 -\nt1 F 0 0 0 -\nt2 F 0 0 0 -\nend 3\n",
+        // with junk from 1 to an aligning 2 the orders of 0 and 1 are enough
+        "1 restart 2\n1 junk 1 2 ff\n1 usual\n1 junk 1 2 445053320000\n2 usual\n\
+         ~0 pos0 L 1000 0\n0 pos1 L 1000 0\n0 pos2 L 1000 0\n1000 pos0 L 1000 0\n1000 pos1 L 1000 0\n1000 pos2 L 1000 0\n2000 pos0 L 1000 0\n2000 pos1 L 1000 0\n2000 pos2 L 1000 0\n\
+         ~0~cycle 0 LLL\nt0 F 0 0 0 0\nt1 F 0 0 0 0\nt2 F 0 0 0 0\ncycle 1 LLA\nt0 F -68360 -68360 -68360 -\nt1 F 0 0 0 -\nt2 F 0 0 0 -\ncycle 2 LLA\nt0 F -131397 -131397 -131397 -\nt1 F 0 0 0 -\nt2 F 0 0 0 -\nend 3\n",
+        // two that lie alike put a false state into the third: two faulty in one cycle
+        "1 restart 2\n1 usual\n1 lie 0 2 1000000000 0\n1 lie 1 2 1000000000 0\n2 usual\n\
+         ~0 pos0 L 1000 0\n0 pos1 L 1000 0\n0 pos2 L 1000 0\n1000 pos0 L 1000 0\n1000 pos1 L 1000 0\n1000 pos2 L 1000 0\n2000 pos0 L 1000 0\n2000 pos1 L 1000 0\n2000 pos2 L 1000 0\n\
+         ~0~cycle 0 LLL\nt0 F 0 0 0 0\nt1 F 0 0 0 0\nt2 F 0 0 0 0\ncycle 1 LLL\nt0 F -68360 -68360 -68360 -\nt1 F 0 0 0 -\nt2 F 0 0 0 -\ncycle 2 LLL\nt0 F -131397 -131397 -131397 -156250\nt1 F 0 0 0 0\nt2 F 0 0 0 0\nend 3\n",
+    ];
+    for row in rows {
+        plays(&rt, rt.alloc(), row)?;
+    }
+    Ok(())
+}
+
+/// A liar of each kind, and two one after another: every ballot is fresh, with the reference run's force.
+#[test]
+fn liars_of_each_kind_are_outvoted(rt: HostRuntime) -> Result<(), Fail> {
+    let rows = [
+        // computer 1 is skewed
+        "1 skew 1 1000000000 0\n1 usual\n2 run 0\n2 run 2\n2 orders 0\n2 orders 2\n3 run 0\n3 run 2\n3 orders 0\n3 orders 2\n\
+         ~0 pos0 L 1000 0\n0 pos1 L 1000 0\n0 pos2 L 1000 0\n1000 pos0 L 1000 0\n1000 pos1 L 1000 0\n1000 pos2 L 1000 0\n2000 pos0 L 1000 0\n2000 pos1 L 1000 0\n2000 pos2 L 1000 0\n3000 pos0 L 1000 0\n3000 pos1 L 1000 0\n3000 pos2 L 1000 0\n\
+         ~0~cycle 0 LLL\nt0 F 0 0 0 0\nt1 F 0 0 0 0\nt2 F 0 0 0 0\ncycle 1 LLL\nt0 F -68360 -68360 -156250 -68360\nt1 F 0 0 0 0\nt2 F 0 0 0 0\ncycle 2 LLL\nt0 F -131397 -131397 - -131397\nt1 F 0 0 - 0\nt2 F 0 0 - 0\ncycle 3 LLL\nt0 F -189356 -189356 - -189356\nt1 F 0 0 - 0\nt2 F 0 0 - 0\nend 4\n",
+        // and says to each voter
+        "1 say 1 0 50000000\n1 say 1 1 -30000000\n1 say 1 2 7\n1 run 0\n1 run 2\n1 orders 0\n1 orders 2\n2 say 1 0 -1\n2 say 1 1 -2\n2 say 1 2 -3\n2 usual\n\
+         ~0 pos0 L 1000 0\n0 pos1 L 1000 0\n0 pos2 L 1000 0\n1000 pos0 L 1000 0\n1000 pos1 L 1000 0\n1000 pos2 L 1000 0\n2000 pos0 L 1000 0\n2000 pos1 L 1000 0\n2000 pos2 L 1000 0\n\
+         ~0~cycle 0 LLL\nt0 F 0 0 0 0\nt1 F 0 0 0 0\nt2 F 0 0 0 0\ncycle 1 LLL\nt0 F -68360 -68360 50000000 -68360\nt1 F 0 0 -30000000 0\nt2 F 0 0 7 0\ncycle 2 LLL\nt0 F -131397 -131397 -1 -131397\nt1 F 0 0 -2 0\nt2 F 0 0 -3 0\nend 3\n",
+        // and lies to computer 2, which is aligning: its lie alone is not taken, and the tell of 0 is no match
+        "1 restart 2\n1 run 0\n1 run 1\n1 orders 0\n1 orders 1\n1 lie 1 2 1000000000 0\n1 tell 0 2\n2 lie 1 2 -5 7\n2 run 0\n2 run 1\n2 orders 0\n2 orders 1\n\
+         ~0 pos0 L 1000 0\n0 pos1 L 1000 0\n0 pos2 L 1000 0\n1000 pos0 L 1000 0\n1000 pos1 L 1000 0\n1000 pos2 L 1000 0\n2000 pos0 L 1000 0\n2000 pos1 L 1000 0\n2000 pos2 L 1000 0\n3000 pos0 L 1000 0\n3000 pos1 L 1000 0\n3000 pos2 L 1000 0\n\
+         ~0~cycle 0 LLL\nt0 F 0 0 0 0\nt1 F 0 0 0 0\nt2 F 0 0 0 0\ncycle 1 LLA\nt0 F -68360 -68360 -68360 -\nt1 F 0 0 0 -\nt2 F 0 0 0 -\ncycle 2 LLA\nt0 F -131397 -131397 -131397 -\nt1 F 0 0 0 -\nt2 F 0 0 0 -\ncycle 3 LLA\nt0 F -189356 -189356 -189356 -\nt1 F 0 0 0 -\nt2 F 0 0 0 -\nend 4\n",
+        // the true state outvotes a lie: computer 2 takes what 0 and 1 tell alike
+        "1 restart 2\n1 lie 1 2 1000000000 0\n1 run 0\n1 run 1\n1 orders 0\n1 orders 1\n1 tell 0 2\n1 tell 1 2\n\
+         ~0 pos0 L 1000 0\n0 pos1 L 1000 0\n0 pos2 L 1000 0\n1000 pos0 L 1000 0\n1000 pos1 L 1000 0\n1000 pos2 L 1000 0\n2000 pos0 L 1000 0\n2000 pos1 L 1000 0\n2000 pos2 L 1000 0\n3000 pos0 L 1000 0\n3000 pos1 L 1000 0\n3000 pos2 L 1000 0\n\
+         ~0~cycle 0 LLL\nt0 F 0 0 0 0\nt1 F 0 0 0 0\nt2 F 0 0 0 0\ncycle 1 LLL\nt0 F -68360 -68360 -68360 -\nt1 F 0 0 0 -\nt2 F 0 0 0 -\ncycle 2 LLL\nt0 F -131397 -131397 -131397 -131397\nt1 F 0 0 0 0\nt2 F 0 0 0 0\ncycle 3 LLL\nt0 F -189356 -189356 -189356 -189356\nt1 F 0 0 0 0\nt2 F 0 0 0 0\nend 4\n",
+        // and sends junk to computer 2
+        "1 restart 2\n1 junk 1 2 00\n1 junk 1 2 4450533200\n1 run 0\n1 run 1\n1 orders 0\n1 orders 1\n1 tell 0 2\n1 junk 1 2 ff\n1 tell 1 2\n1 junk 1 2 44505331\n\
+         ~0 pos0 L 1000 0\n0 pos1 L 1000 0\n0 pos2 L 1000 0\n1000 pos0 L 1000 0\n1000 pos1 L 1000 0\n1000 pos2 L 1000 0\n2000 pos0 L 1000 0\n2000 pos1 L 1000 0\n2000 pos2 L 1000 0\n3000 pos0 L 1000 0\n3000 pos1 L 1000 0\n3000 pos2 L 1000 0\n\
+         ~0~cycle 0 LLL\nt0 F 0 0 0 0\nt1 F 0 0 0 0\nt2 F 0 0 0 0\ncycle 1 LLL\nt0 F -68360 -68360 -68360 -\nt1 F 0 0 0 -\nt2 F 0 0 0 -\ncycle 2 LLL\nt0 F -131397 -131397 -131397 -131397\nt1 F 0 0 0 0\nt2 F 0 0 0 0\ncycle 3 LLL\nt0 F -189356 -189356 -189356 -189356\nt1 F 0 0 0 0\nt2 F 0 0 0 0\nend 4\n",
+        // to one that is live too
+        "1 junk 1 2 00\n1 lie 1 2 1000000000 0\n1 tell 1 2\n1 usual\n\
+         ~0 pos0 L 1000 0\n0 pos1 L 1000 0\n0 pos2 L 1000 0\n1000 pos0 L 1000 0\n1000 pos1 L 1000 0\n1000 pos2 L 1000 0\n2000 pos0 L 1000 0\n2000 pos1 L 1000 0\n2000 pos2 L 1000 0\n\
+         ~0~cycle 0 LLL\nt0 F 0 0 0 0\nt1 F 0 0 0 0\nt2 F 0 0 0 0\ncycle 1 LLL\nt0 F -68360 -68360 -68360 -68360\nt1 F 0 0 0 0\nt2 F 0 0 0 0\ncycle 2 LLL\nt0 F -131397 -131397 -131397 -131397\nt1 F 0 0 0 0\nt2 F 0 0 0 0\nend 3\n",
+        // and is stopped and says
+        "0 usual\n1 stop 1\n1 say 1 0 9\n1 say 1 1 9\n1 say 1 2 9\n1 run 0\n1 run 2\n1 orders 0\n1 orders 2\n2 lie 1 2 0 0\n2 tell 1 2\n2 say 1 0 -9\n2 run 0\n2 run 2\n2 orders 0\n2 orders 2\n\
+         ~0 pos0 L 1000 0\n0 pos1 L 1000 0\n0 pos2 L 1000 0\n1000 pos0 L 1000 0\n1000 pos1 L 1000 0\n1000 pos2 L 1000 0\n2000 pos0 L 1000 0\n2000 pos1 L 1000 0\n2000 pos2 L 1000 0\n3000 pos0 L 1000 0\n3000 pos1 L 1000 0\n3000 pos2 L 1000 0\n\
+         ~0~cycle 0 LLL\nt0 F 0 0 0 0\nt1 F 0 0 0 0\nt2 F 0 0 0 0\ncycle 1 LOL\nt0 F -68360 -68360 9 -68360\nt1 F 0 0 9 0\nt2 F 0 0 9 0\ncycle 2 LOL\nt0 F -131397 -131397 -9 -131397\nt1 F 0 0 - 0\nt2 F 0 0 - 0\ncycle 3 LOL\nt0 F -189356 -189356 - -189356\nt1 F 0 0 - 0\nt2 F 0 0 - 0\nend 4\n",
+        // and is aligning and lies and tells to computer 2
+        "1 restart 1\n1 say 1 0 5\n1 lie 1 2 1000000000 0\n1 tell 1 2\n1 junk 1 2 00\n1 run 0\n1 run 2\n1 orders 0\n1 orders 2\n2 say 1 1 5\n2 tell 1 2\n2 run 0\n2 run 2\n2 orders 0\n2 orders 2\n\
+         ~0 pos0 L 1000 0\n0 pos1 L 1000 0\n0 pos2 L 1000 0\n1000 pos0 L 1000 0\n1000 pos1 L 1000 0\n1000 pos2 L 1000 0\n2000 pos0 L 1000 0\n2000 pos1 L 1000 0\n2000 pos2 L 1000 0\n3000 pos0 L 1000 0\n3000 pos1 L 1000 0\n3000 pos2 L 1000 0\n\
+         ~0~cycle 0 LLL\nt0 F 0 0 0 0\nt1 F 0 0 0 0\nt2 F 0 0 0 0\ncycle 1 LAL\nt0 F -68360 -68360 5 -68360\nt1 F 0 0 - 0\nt2 F 0 0 - 0\ncycle 2 LAL\nt0 F -131397 -131397 - -131397\nt1 F 0 0 5 0\nt2 F 0 0 - 0\ncycle 3 LAL\nt0 F -189356 -189356 - -189356\nt1 F 0 0 - 0\nt2 F 0 0 - 0\nend 4\n",
+        // two liars one after another: 1 says, is restarted and takes the state that 0 and 2 tell; then 2 is skewed
+        "3 say 1 0 123\n3 say 1 1 -123\n3 say 1 2 123\n3 usual\n4 restart 1\n4 run 0\n4 run 2\n4 tell 0 1\n4 tell 2 1\n4 orders 0\n4 orders 1\n4 orders 2\n5 skew 2 -1000000000 1000000000\n5 usual\n6 usual\n7 usual\n\
+         ~0 pos0 L 1000 0\n0 pos1 L 1000 0\n0 pos2 L 1000 0\n1000 pos0 L 1000 0\n1000 pos1 L 1000 0\n1000 pos2 L 1000 0\n2000 pos0 L 1000 0\n2000 pos1 L 1000 0\n2000 pos2 L 1000 0\n3000 pos0 L 1000 0\n3000 pos1 L 1000 0\n3000 pos2 L 1000 0\n4000 pos0 L 1000 0\n4000 pos1 L 1000 0\n4000 pos2 L 1000 0\n5000 pos0 L 1000 0\n5000 pos1 L 1000 0\n5000 pos2 L 1000 0\n6000 pos0 L 1000 0\n6000 pos1 L 1000 0\n6000 pos2 L 1000 0\n7000 pos0 L 1000 0\n7000 pos1 L 1000 0\n7000 pos2 L 1000 0\n\
+         ~0~cycle 0 LLL\nt0 F 0 0 0 0\nt1 F 0 0 0 0\nt2 F 0 0 0 0\ncycle 1 LLL\nt0 F -68360 -68360 -68360 -68360\nt1 F 0 0 0 0\nt2 F 0 0 0 0\ncycle 2 LLL\nt0 F -131397 -131397 -131397 -131397\nt1 F 0 0 0 0\nt2 F 0 0 0 0\ncycle 3 LLL\nt0 F -189356 -189356 123 -189356\nt1 F 0 0 -123 0\nt2 F 0 0 123 0\ncycle 4 LLL\nt0 F -242480 -242480 - -242480\nt1 F 0 0 - 0\nt2 F 0 0 - 0\ncycle 5 LLL\nt0 F -291005 -291005 -291005 156249\nt1 F 0 0 0 -156250\nt2 F 0 0 0 0\ncycle 6 LLL\nt0 F -335163 -335163 -335163 15624\nt1 F 0 0 0 -83984\nt2 F 0 0 0 0\ncycle 7 LLL\nt0 F -375182 -375182 -375182 -114279\nt1 F 0 0 0 -17118\nt2 F 0 0 0 0\nend 8\n",
+    ];
+    for row in rows {
+        plays(&rt, rt.alloc(), row)?;
+    }
+    Ok(())
+}

@@ -9,17 +9,17 @@ use dp_shell::{Failed, PlainShelf, PlainSink, Shelf, Sink, Trouble};
 use std::cell::Cell;
 
 /// Three cycles at one place. Their lines end at the offsets 48, 105 and 162.
-const THREE_CYCLES: &str =
+pub const THREE_CYCLES: &str =
     "0 pos0 L 1000 0\n0 pos1 L 1000 0\n0 pos2 L 1000 0\n1000 pos0 L 1000 0\n1000 pos1 L 1000 0\n1000 pos2 L 1000 0\n2000 pos0 L 1000 0\n2000 pos1 L 1000 0\n2000 pos2 L 1000 0\n";
 
 /// Their blocks.
-const FIRST: &str =
+pub const FIRST: &str =
     "cycle 0 LLL\nt0 F 0 0 0 0\nt1 F 0 0 0 0\nt2 F 0 0 0 0\nt3 F 0 0 0 0\nt4 F 0 0 0 0\nt5 F 0 0 0 0\nalarm gyro\nalarm wind\n";
 
-const SECOND: &str =
+pub const SECOND: &str =
     "cycle 1 LLL\nt0 F -171 -171 -171 -171\nt1 F -171 -171 -171 -171\nt2 F 0 0 0 0\nt3 F 0 0 0 0\nt4 F 0 0 0 0\nt5 F 0 0 0 0\nalarm gyro\nalarm wind\n";
 
-const THIRD: &str =
+pub const THIRD: &str =
     "cycle 2 LLL\nt0 F -329 -329 -329 -329\nt1 F -329 -329 -329 -329\nt2 F 0 0 0 0\nt3 F 0 0 0 0\nt4 F 0 0 0 0\nt5 F 0 0 0 0\nalarm gyro\nalarm wind\n";
 
 /// What a replay of them gives.

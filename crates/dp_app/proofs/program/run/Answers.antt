@@ -1,4 +1,4 @@
-use Rattle.std.proofs.Common.{◌≡◌, [], Err, IfSome, Ok, Option, Result, ap, refl, subst}
+use Rattle.std.proofs.Common.{◌≡◌, ◌∙◌, [], Err, IfSome, Ok, Option, Result, ap, refl, subst, sym}
 use Rattle.dp_shell.specs.Faults.{Rose}
 use Rattle.dp_shell.specs.Names.{texts_of}
 use Rattle.dp_shell.specs.Texts.{Files}
@@ -7,6 +7,7 @@ use Rattle.dp_app.specs.declared.fault.File.TheVariants.{Record}
 use Rattle.dp_app.specs.Causes.{ReadFailed, RecordFailed}
 use Rattle.dp_app.specs.declared.inputs.Task.{Task as Given}
 use Rattle.dp_app.specs.declared.inputs.Task.TheVariants as given
+use Rattle.dp_app.specs.Complete.{GivesNoFile}
 use Rattle.dp_app.specs.Given.{HasAcceptedPlant, LeavesRecord, task_of}
 use Rattle.dp_app.specs.Headline.{IsOnAcceptedPlant}
 use Rattle.dp_script.specs.Made.{made}
@@ -17,9 +18,10 @@ use Rattle.dp_app.specs.Words.{command_in, files_read}
 use Rattle.dp_app.specs.Written.{HasWritten, NoReadFailed}
 use Rattle.dp_app.proofs.Asking.{each_file, of_asked}
 use Rattle.dp_app.proofs.AcceptedTasks.{for_each, replayed, tried}
-use Rattle.dp_app.proofs.Endings.{line_status, written_more, written_unread}
+use Rattle.dp_app.proofs.Endings.{line_status, written_more}
 use Rattle.dp_app.proofs.Gathering.{of_each, record_failed, record_keeps, some_command}
 use Rattle.dp_app.proofs.Outcomes.{any_rose, refused_announced, refused_complete, refused_read, refused_written, status_known}
+use Rattle.dp_app.proofs.WholeRuns.{unread_refused, whole_run}
 use Rattle.dp_app.proofs.program.run.Goals as goal
 
 pub returns-in-Ok-Replay-clause-status : goal.returns-in-Ok-Replay-clause-status
@@ -215,3 +217,71 @@ pub returns-in-Err-clause-accepted : goal.returns-in-Err-clause-accepted
 returns-in-Err-clause-accepted g c = λ is.
     let e = line_status _ _ _ _ c.announce.result c.announce.ensures.ends is in
     of_asked (g.F.Shelf.files c.args.shelf.now) (command_in (texts_of c.args.words.now)) (Err c.in-Err.fault) IsOnAcceptedPlant (c.in-Err.ensures.err (rw e at is)) tt
+
+-- ---- nothing comes between, and no file is read
+
+pub returns-in-Ok-Replay-clause-complete_text : goal.returns-in-Ok-Replay-clause-complete_text
+returns-in-Ok-Replay-clause-complete_text g c =
+    let command = command_in (texts_of c.args.words.now) in
+    let failed = ReadFailed (g.F.Shelf.files c.args.shelf.now) (g.F.Shelf.faults c.args.shelf.now) (g.F.Shelf.faults c.replay.new.shelf) (files_read command) in
+    whole_run (g.F.Shelf.files c.args.shelf.now) command failed c.replay.result (g.K.Sink.taken c.args.out.now) (g.K.Sink.taken c.replay.new.out) _ _
+    (returns-in-Ok-Replay-clause-status g c) (returns-in-Ok-Replay-clause-written g c)
+    (returns-in-Ok-Replay-clause-complete g c)
+
+pub returns-in-Ok-Check-clause-complete_text : goal.returns-in-Ok-Check-clause-complete_text
+returns-in-Ok-Check-clause-complete_text g c =
+    let command = command_in (texts_of c.args.words.now) in
+    let failed = ReadFailed (g.F.Shelf.files c.args.shelf.now) (g.F.Shelf.faults c.args.shelf.now) (g.F.Shelf.faults c.gather.new.shelf) (files_read command) in
+    whole_run (g.F.Shelf.files c.args.shelf.now) command failed c.check.result (g.K.Sink.taken c.args.out.now) (g.K.Sink.taken c.check.new.out) _ _
+    (returns-in-Ok-Check-clause-status g c) (returns-in-Ok-Check-clause-written g c)
+    (λ quiet still. status_known c.check.result (λ e. absurd (c.check.ensures.read.0 e)) (λ e. still (c.check.ensures.write e)))
+
+pub returns-in-Ok-Make-clause-complete_text : goal.returns-in-Ok-Make-clause-complete_text
+returns-in-Ok-Make-clause-complete_text g c =
+    let command = command_in (texts_of c.args.words.now) in
+    let failed = ReadFailed (g.F.Shelf.files c.args.shelf.now) (g.F.Shelf.faults c.args.shelf.now) (g.F.Shelf.faults c.gather.new.shelf) (files_read command) in
+    whole_run (g.F.Shelf.files c.args.shelf.now) command failed c.make.result (g.K.Sink.taken c.args.out.now) (g.K.Sink.taken c.make.new.out) _ _
+    (returns-in-Ok-Make-clause-status g c) (returns-in-Ok-Make-clause-written g c)
+    (λ quiet still. status_known c.make.result (λ e. absurd (c.make.ensures.read.0 e)) (λ e. still (c.make.ensures.write e)))
+
+pub returns-in-Ok-Trial-clause-complete_text : goal.returns-in-Ok-Trial-clause-complete_text
+returns-in-Ok-Trial-clause-complete_text g c =
+    let command = command_in (texts_of c.args.words.now) in
+    let failed = ReadFailed (g.F.Shelf.files c.args.shelf.now) (g.F.Shelf.faults c.args.shelf.now) (g.F.Shelf.faults c.gather.new.shelf) (files_read command) in
+    whole_run (g.F.Shelf.files c.args.shelf.now) command failed c.trial.result (g.K.Sink.taken c.args.out.now) (g.K.Sink.taken c.trial.new.out) _ _
+    (returns-in-Ok-Trial-clause-status g c) (returns-in-Ok-Trial-clause-written g c)
+    (λ quiet still. status_known c.trial.result (λ e. absurd (c.trial.ensures.read.0 e)) (λ e. still (c.trial.ensures.write e)))
+
+pub returns-in-Err-clause-complete_text : goal.returns-in-Err-clause-complete_text
+returns-in-Err-clause-complete_text g c =
+    let command = command_in (texts_of c.args.words.now) in
+    let failed = ReadFailed (g.F.Shelf.files c.args.shelf.now) (g.F.Shelf.faults c.args.shelf.now) (g.F.Shelf.faults c.gather.new.shelf) (files_read command) in
+    whole_run (g.F.Shelf.files c.args.shelf.now) command failed c.announce.result (g.K.Sink.taken c.args.out.now) (g.K.Sink.taken c.announce.new.out) _ _
+    (returns-in-Err-clause-status g c) (returns-in-Err-clause-written g c)
+    (returns-in-Err-clause-complete g c)
+
+pub returns-in-Ok-Replay-clause-unread : goal.returns-in-Ok-Replay-clause-unread
+returns-in-Ok-Replay-clause-unread g c = λ x asks.
+    absurd (subst (λ (t : Given). GivesNoFile (Ok t) x) c.in-Ok-Replay.field-0-is (c.in-Ok-Replay.ensures.unread x asks))
+
+pub returns-in-Ok-Check-clause-unread : goal.returns-in-Ok-Check-clause-unread
+returns-in-Ok-Check-clause-unread g c = λ x asks.
+    absurd (subst (λ (t : Given). GivesNoFile (Ok t) x) c.in-Ok-Check.field-0-is (c.in-Ok-Check.ensures.unread x asks))
+
+pub returns-in-Ok-Trial-clause-unread : goal.returns-in-Ok-Trial-clause-unread
+returns-in-Ok-Trial-clause-unread g c = λ x asks.
+    absurd (subst (λ (t : Given). GivesNoFile (Ok t) x) c.in-Ok-Trial.field-0-is (c.in-Ok-Trial.ensures.unread x asks))
+
+pub returns-in-Ok-Make-clause-unread : goal.returns-in-Ok-Make-clause-unread
+returns-in-Ok-Make-clause-unread g c = λ x asks.
+    let e : x ≡ Ok (to_make c.in-Ok-Make.number) =
+    subst (λ (t : Given). GivesNoFile (Ok t) x) c.in-Ok-Make.field-0-is (c.in-Ok-Make.ensures.unread x asks) in (
+      λ is. c.make.ensures.status is ∙ sym (ap (λ (r : Result Task Fault). (outcome_of r).status) e),
+      subst (λ (r : Result Task Fault). HasWritten NoReadFailed [] (outcome_of r).text c.make.result (g.K.Sink.taken c.args.out.now) (g.K.Sink.taken c.make.new.out)) (sym e)
+          c.make.ensures.written,
+    )
+
+pub returns-in-Err-clause-unread : goal.returns-in-Err-clause-unread
+returns-in-Err-clause-unread g c = λ x asks.
+    unread_refused (command_in (texts_of c.args.words.now)) x asks (g.K.Sink.taken c.args.out.now) (g.K.Sink.taken c.announce.new.out) c.announce.result c.in-Err.fault
+    c.announce.ensures.ends (c.in-Err.ensures.unread x asks)

@@ -1,5 +1,5 @@
 use Rattle.std.proofs.Common.{◌≡◌, ◌∙◌, ap, refl, arith}
-use Rattle.dp_core.specs.ComputerState.{ComputerState, after_run, run_answer}
+use Rattle.dp_exchange.specs.ComputerState.{ComputerState, after_run, run_answer}
 use Rattle.dp_core.specs.WorldState.{WorldState, after}
 use Rattle.dp_core.specs.WorldView.{IsInStep, world_of}
 use Rattle.dp_core.specs.declared.event.Event.TheVariants.{Run}

@@ -1,5 +1,5 @@
 use Rattle.std.proofs.Common.{◌≡◌, ◌∙◌, ap, arith, refl}
-use Rattle.dp_core.specs.ComputerState.{ComputerState, after_stop}
+use Rattle.dp_exchange.specs.ComputerState.{ComputerState, after_stop}
 use Rattle.dp_core.specs.WorldState.{after}
 use Rattle.dp_core.specs.WorldView.{IsInStep, world_of}
 use Rattle.dp_core.specs.declared.event.Event.TheVariants.{Stop}

@@ -1,12 +1,12 @@
 use Rattle.std.proofs.Common.{◌∙◌, ◌+◌, ◌≡◌, List, Some, ap, arith, length, map, subst, sym, ℕ}
 use Rattle.std.specs.Prelude.{slice_get}
-use Rattle.dp_core.specs.ComputerState.{ComputerState, after_wire}
+use Rattle.dp_exchange.specs.ComputerState.{ComputerState, after_wire}
 use Rattle.dp_core.specs.WorldView.{IsInStep}
 use Rattle.dp_plant.specs.declared.plant.Plant.{Plant}
 use Rattle.dp_voter.specs.VoterState.{begun}
 use Rattle.dp_core.proofs.InStep.{all-in_step, all-of_plant}
 use Rattle.dp_core.proofs.Lists.{map-length}
-use Rattle.dp_core.specs.ComputerState.{wire_answer}
+use Rattle.dp_exchange.specs.ComputerState.{wire_answer}
 use Rattle.dp_core.specs.WorldState.{WorldState, after}
 use Rattle.dp_core.specs.WorldView.{world_of}
 use Rattle.dp_core.specs.declared.event.Event.TheVariants.{Wire}
