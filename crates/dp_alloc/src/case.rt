@@ -8,7 +8,7 @@ ghost use Rattle.dp_alloc.specs.Thrust.{thrust_of};
 
 use crate::CaseFault;
 use crate::conditions::{all_limits, case_fault};
-use crate::thrust::thrusts;
+use crate::thrust::add_thrusts;
 use arrayvec::ArrayVec;
 use dp_plant::{Box3, Plant, RawCase};
 use dp_trig::Trig;
@@ -60,6 +60,8 @@ impl Case {
             (slice_index_or self.now.limits.items k (pos 0, pos 0))
             (slice_index_or result.items k (pos 0)) }
     {
-        thrusts(&self.raw.b, a)
+        let mut forces = ArrayVec::new();
+        add_thrusts(&self.raw.b, a, &mut forces);
+        forces
     }
 }

@@ -4,7 +4,7 @@ ghost use Rattle.std.specs.Option.{option_map};
 ghost use Rattle.dp_plant.specs.{IsPlaneBox, IsYawBox, box_of};
 
 use crate::Case;
-use crate::thrust::{no_thrusts, thrusts};
+use crate::thrust::{add_no_thrusts, add_thrusts};
 use arrayvec::ArrayVec;
 use dp_plant::{Box3, Memory, Plant, Thruster};
 use dp_trig::Trig;
@@ -78,9 +78,20 @@ impl Cases {
         requires { IsDemandWithin a }
         ensures { result.items ≡ forces_of self.now.thrusters (case_in self.now lost) a }
     {
+        let mut forces = ArrayVec::new();
+        self.share_out(lost, a, &mut forces);
+        forces
+    }
+
+    /// The forces that [`Cases::forces`] gives, into a list that is emptied first.
+    pub fn share_out(&self, lost: u8, a: [i64; 3], forces: &mut ArrayVec<i64, 12>)
+        requires { IsDemandWithin a }
+        ensures { forces.new.items ≡ forces_of self.now.thrusters (case_in self.now lost) a }
+    {
+        forces.clear();
         match self.case_of(lost) {
-            Some(case) => thrusts(&case.raw.b, a),
-            None => no_thrusts(&self.thrusters),
+            Some(case) => add_thrusts(&case.raw.b, a, forces),
+            None => add_no_thrusts(&self.thrusters, forces),
         }
     }
 

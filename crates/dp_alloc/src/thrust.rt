@@ -1,5 +1,5 @@
 //! The forces of a demand.
-ghost use Rattle.std.specs.Prelude.{◌≡◌, ◌≤◌, ◌^◌, ◌*ℤ◌, All, map, pos, unsigned_abs};
+ghost use Rattle.std.specs.Prelude.{◌≡◌, ◌≤◌, ◌^◌, ◌*ℤ◌, [], All, map, pos, unsigned_abs};
 ghost use Rattle.dp_fixed.specs.{floor_of};
 ghost use Rattle.dp_plant.specs.{IsShareRow};
 ghost use Rattle.dp_alloc.specs.{IsDemandWithin, thrust_of};
@@ -11,35 +11,37 @@ use dp_plant::Thruster;
 /// The scale of a case's shares.
 const SHARES: i128 = 1 << 20;
 
-/// The forces by the rows of a case.
-pub(crate) fn thrusts(rows: &ArrayVec<[i64; 3], 12>, demand: [i64; 3]) -> ArrayVec<i64, 12>
+/// The forces by the rows of a case, into an empty list.
+pub(crate) fn add_thrusts(
+    rows: &ArrayVec<[i64; 3], 12>,
+    demand: [i64; 3],
+    forces: &mut ArrayVec<i64, 12>,
+)
     requires shares { All IsShareRow rows.now.items }
     requires demand { IsDemandWithin demand }
-    ensures { result.items ≡ map (thrust_of demand) rows.now.items }
+    requires empty { forces.old.items ≡ [] }
+    ensures { forces.new.items ≡ map (thrust_of demand) rows.now.items }
 {
-    let mut forces = ArrayVec::new();
     for row in rows.as_slice() {
-        forces.push(thrust_of(*row, demand));
+        forces.push(thrust_of(row, demand));
     }
-    forces
 }
 
-/// No force of any thruster.
-pub(crate) fn no_thrusts(thrusters: &ArrayVec<Thruster, 12>) -> ArrayVec<i64, 12>
-    ensures { result.items ≡ map (λ t. pos 0) thrusters.now.items }
+/// No force of any thruster, into an empty list.
+pub(crate) fn add_no_thrusts(thrusters: &ArrayVec<Thruster, 12>, forces: &mut ArrayVec<i64, 12>)
+    requires empty { forces.old.items ≡ [] }
+    ensures { forces.new.items ≡ map (λ t. pos 0) thrusters.now.items }
 {
-    let mut forces = ArrayVec::new();
     for _ in thrusters.as_slice() {
         forces.push(0);
     }
-    forces
 }
 
 /// The force of a thruster, by its row of shares over 2^20.
-fn thrust_of(row: [i64; 3], demand: [i64; 3]) -> i64
-    requires shares { IsShareRow row }
+fn thrust_of(row: &[i64; 3], demand: [i64; 3]) -> i64
+    requires shares { IsShareRow row.now }
     requires demand { IsDemandWithin demand }
-    ensures { result ≡ thrust_of demand row }
+    ensures { result ≡ thrust_of demand row.now }
 {
     let plane = sum(part(row[0], demand[0]), part(row[1], demand[1]));
     whole(sum(plane, part(row[2], demand[2])))

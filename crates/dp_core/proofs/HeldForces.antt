@@ -1,13 +1,12 @@
 -- Where no computer's name was used for a force, what a voter holds of a computer is of its own trajectory.
-use Rattle.std.proofs.Common.{Bool, List, None, Option, Some, [], ap, cond, eqb, false, if◌then◌else◌, inl, inr, refl, subst, suc, sym, true, ℕ, ℤ, ◌&&◌, ◌||◌, ◌++◌, ◌∙◌, ◌∷◌, ◌≡◌, length}
+use Rattle.std.proofs.Common.{Bool, List, None, Some, [], ap, false, if◌then◌else◌, inl, inr, refl, suc, true, ℕ, ℤ, ◌&&◌, ◌||◌, ◌∙◌, ◌∷◌, ◌≡◌, length}
 use Rattle.std.proofs.lemmas.Bool.{and_parts, or_parts}
 use Rattle.dp_core.proofs.Moments.{IsTaken-from_order, moment}
 use Rattle.dp_core.proofs.OwnForces.{last_issue-own}
 use Rattle.dp_core.proofs.Soundness.{no_frame-no_wire}
 use Rattle.dp_core.proofs.Trajectories.{frames-kept}
 use Rattle.dp_core.specs.History.{history, seen_of}
-use Rattle.dp_core.specs.Mode.{cycles_begun, frames}
-use Rattle.dp_core.specs.Moment.{Moment, frame_of, is_fault, is_order, is_wire, saw_taken}
+use Rattle.dp_core.specs.Moment.{frame_of, is_fault, is_order, is_wire, saw_taken}
 use Rattle.dp_core.specs.OwnForce.{IsOwnForce, is_said, is_say}
 use Rattle.dp_core.specs.Voting.{force_said, message_in, taken_force}
 use Rattle.dp_core.specs.declared.event.Event.{Event}

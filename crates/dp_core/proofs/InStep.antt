@@ -211,3 +211,14 @@ pub all-of_plant : (xs : List ComputerState) (p : Plant) (f : Frame) → ((c : �
 all-of_plant xs p f all c z e =
     let t = map-at xs c (λ x. after_wire x f) z e in
     subst (λ (x : ComputerState). x.plant ≡ p) t.is (wire-plant t.before f ∙ all c t.before t.stood)
+
+-- a frame is heard by all, and each runs
+pub advanced-in_step : (xs : List ComputerState) (n : ℕ) (f : Frame) → ((c : ℕ) (z : ComputerState) → slice_get xs c ≡ Some z → IsInStep n z) → (c : ℕ) (z : ComputerState) → slice_get (map (λ x. after_run (after_wire x f)) xs) c ≡ Some z → IsInStep (n + 1) z
+advanced-in_step xs n f all c z e =
+    let t = map-at xs c (λ x. after_run (after_wire x f)) z e in
+    subst (IsInStep (n + 1)) t.is (run-in_step (n + 1) (after_wire t.before f) (wire-in_step n t.before f (all c t.before t.stood)))
+
+pub advanced-of_plant : (xs : List ComputerState) (p : Plant) (f : Frame) → ((c : ℕ) (z : ComputerState) → slice_get xs c ≡ Some z → z.plant ≡ p) → (c : ℕ) (z : ComputerState) → slice_get (map (λ x. after_run (after_wire x f)) xs) c ≡ Some z → z.plant ≡ p
+advanced-of_plant xs p f all c z e =
+    let t = map-at xs c (λ x. after_run (after_wire x f)) z e in
+    subst (λ (x : ComputerState). x.plant ≡ p) t.is (run-plant (after_wire t.before f) ∙ (wire-plant t.before f ∙ all c t.before t.stood))

@@ -1,7 +1,9 @@
 -- A world represents one more event.
 use Rattle.dp_core.specs.Mode as modes
-use Rattle.std.proofs.Common.{Bool, List, None, Option, Some, [], ap, arith, cond, eqb, false, get_or, if◌then◌else◌, inl, inr, length, map, refl, subst, suc, sym, true, zero, ℕ, ℤ, ◌&&◌, ◌+◌, ◌<◌, ◌∙◌, ◌∷◌, ◌≡◌}
+use Rattle.std.proofs.Common.{Bool, List, None, Option, Some, [], ap, arith, cond, eqb, false, get_or, if◌then◌else◌, inl, inr, length, map, refl, set, subst, suc, sym, true, zero, ℕ, ℤ, ◌&&◌, ◌+◌, ◌<◌, ◌∙◌, ◌∷◌, ◌≡◌, ◌≤◌}
 use Rattle.std.proofs.lemmas.Bool.{and_left, and_right, ne_eqb}
+use Rattle.std.specs.List.{refill}
+use Rattle.std.specs.Option.{option_map}
 use Rattle.std.specs.Prelude.{slice_get}
 use Rattle.arrayvec.specs.ArrayVec.{ArrayVec}
 use Rattle.dp_codec.specs.Spelling.{IsSoftware, state_read}
@@ -10,7 +12,7 @@ use Rattle.dp_exchange.specs.declared.answers.Offer.{Offer}
 use Rattle.dp_machine.specs.declared.state.State.{State}
 use Rattle.dp_core.proofs.Computers.{IsNothing, mode_of-control, computer-first, computer-wire, computer-kept, computer-run, computer-skew, computer-stop, wire_answer-represents, order-nothing, run-other, run_answer-represents, say-nothing, skew-other, skew_answer-represents, stop-other, vote-nothing, wire-cycles}
 use Rattle.dp_core.proofs.Exchanges.{computer-lie, computer-restart, computer-tell, computer-upgrade, lie-other, lie-read, offer_answer-represents, restart-other, tell-answer-represents, tell-other, upgrade-other}
-use Rattle.dp_core.proofs.Lists.{below-get, changed-alike, changed-at, changed-length, changed-same, get-below, map-at, map-length, read-at, three-of}
+use Rattle.dp_core.proofs.Lists.{below-get, changed-alike, changed-at, changed-length, changed-read, changed-same, get-below, map-at, map-length, read-at, three-of}
 use Rattle.dp_core.proofs.Moments.{moment}
 use Rattle.dp_core.proofs.Trajectories.{frames-kept, within}
 use Rattle.dp_core.proofs.Voters.{IsNoVote, IsOrderOf-order, IsOrderOf-say, answer-represents, ballot-represents, fresh_is_last, voter-begun, voter-first, voter-kept, voter-ordered, voter-voted}
@@ -25,6 +27,7 @@ use Rattle.dp_core.specs.Represents.{ComputerRepresents, Represents, VoterRepres
 use Rattle.dp_core.specs.Trajectory.{last_issue, trajectory}
 use Rattle.dp_core.specs.Voting.{Message, answer, answer_if, ballot, high_of, low_of, message_of, taken_forces}
 use Rattle.dp_core.specs.WorldState.{IsAllowed, WorldState, after, after_order, after_tell, after_told, change_at, last_of, text_answer, told_answer, voter_of, with_text}
+use Rattle.dp_core.specs.Several.{order_events, sent, sent_by}
 use Rattle.dp_core.specs.WorldView.{IsInStep}
 use Rattle.dp_exchange.specs.declared.answers.Heard.{Heard}
 use Rattle.dp_exchange.specs.declared.answers.Ran.{Ran}
@@ -497,6 +500,118 @@ say-said now new a k n g f same e = e ∙ ap (λ z. after now (Say a k n z)) sam
 pub order-said : (now new : WorldState) (a k n : ℕ) (g f : ℤ) → g ≡ f → Some (record { cycle = n; force = f }) ≡ message_of k (last_of (slice_get now.computers a)) → new ≡ after now (Say a k n g) → new ≡ after now (Order a k)
 unfolding after
 order-said now new a k n g f same says e = say-said now new a k n g f same e ∙ ap (λ (o : Option Message). record now { voters = change_at now.voters k (after_order a o) }) says
+
+-- ---- a cycle's frame is heard by all, and each runs
+
+advanced-computers : (xs : List ComputerState) (f : Frame) → length xs ≡ 3 → map (λ x. after_run (after_wire x f)) xs ≡ change_at (change_at (change_at (map (λ x. after_wire x f) xs) 0 after_run) 1 after_run) 2 after_run
+advanced-computers [] f e = absurd (omega (arith, e))
+advanced-computers (x ∷ []) f e = absurd (omega (arith, e))
+advanced-computers (x ∷ y ∷ []) f e = absurd (omega (arith, e))
+advanced-computers (x ∷ y ∷ z ∷ []) f e = refl
+advanced-computers (x ∷ y ∷ z ∷ u ∷ us) f e = absurd (omega (arith, e))
+
+abbrev pub advanced : WorldState → Frame → WorldState
+advanced w f = after (after (after (after w (Wire f)) (Run 0)) (Run 1)) (Run 2)
+
+pub advance-is : (w : WorldState) (f : Frame) (xs : List ComputerState) (vs : List VoterState) → length w.computers ≡ 3 → xs ≡ map (λ x. after_run (after_wire x f)) w.computers → vs ≡ map (λ v. begun v f.cycle) w.voters → f.cycle ≡ w.cycles_begun
+    → record { plant = w.plant; computers = xs; voters = vs; cycles_begun = w.cycles_begun + 1 } ≡ advanced w f
+unfolding after
+advance-is w f xs vs three ex ev ec =
+    let voters = ev ∙ ap (λ n. map (λ v. begun v n) w.voters) ec in
+    let computers = ex ∙ advanced-computers w.computers f three in
+    rw (computers, voters)
+
+pub advanced-represents : (es : List Event) (now new : WorldState) (f : Frame) → new ≡ advanced now f → IsAllowed now (Wire f) → Represents es now → Represents (Run 2 ∷ Run 1 ∷ Run 0 ∷ Wire f ∷ es) new
+advanced-represents es now new f n allowed r =
+    let w = after now (Wire f) in
+    let x = after w (Run 0) in
+    let y = after x (Run 1) in
+    let heard = after-represents es now (Wire f) allowed r in
+    let first = after-represents (Wire f ∷ es) w (Run 0) (omega arith) heard in
+    let second = after-represents (Run 0 ∷ Wire f ∷ es) x (Run 1) (omega arith) first in
+    let third = after-represents (Run 1 ∷ Run 0 ∷ Wire f ∷ es) y (Run 2) (omega arith) second in
+    subst (Represents (Run 2 ∷ Run 1 ∷ Run 0 ∷ Wire f ∷ es)) (sym n) third
+
+-- ---- the orders of a computer to all voters
+
+sent-after : (es : List Event) (w : WorldState) (a : ℕ) (x : Issue) (n : ℕ) → a < 3 → n ≤ length w.plant.thrusters.items → last_of (slice_get w.computers a) ≡ Some x → Represents es w → Represents (order_events a n es) (record w { voters = sent a x n w.voters })
+unfolding order_events sent after
+sent-after es w a x zero a3 l is r = r
+sent-after es w a x (suc n) a3 l is r =
+    let so_far = sent-after es w a x n a3 (omega (arith, l)) is r in
+    let v = record w { voters = sent a x n w.voters } in
+    let next = after-represents (order_events a n es) v (Order a n) (a3, omega (arith, l)) so_far in
+    subst (λ (o : Option Issue). Represents (Order a n ∷ order_events a n es) (record v { voters = change_at v.voters n (after_order a (message_of n o)) })) is next
+
+unsent-after : (es : List Event) (w : WorldState) (a n : ℕ) → a < 3 → n ≤ length w.plant.thrusters.items → last_of (slice_get w.computers a) ≡ None → Represents es w → Represents (order_events a n es) w
+unfolding order_events message_of
+unsent-after es w a zero a3 l is r = r
+unsent-after es w a (suc n) a3 l is r =
+    let so_far = unsent-after es w a n a3 (omega (arith, l)) is r in
+    let same = order-unsaid w a n (sym (ap (message_of n) is)) in
+    went-on (order_events a n es) w w (Order a n) same (a3, omega (arith, l)) so_far
+
+pub sent-represents : (es : List Event) (now : WorldState) (a : ℕ) (vs : List VoterState) (o : Option Issue) → a < 3 → last_of (slice_get now.computers a) ≡ o → vs ≡ sent_by a o now.voters → Represents es now → Represents (order_events a (length now.plant.thrusters.items) es) (record now { voters = vs })
+sent-represents es now a vs None a3 last is r =
+    subst (λ (us : List VoterState). Represents (order_events a (length now.plant.thrusters.items) es) (record now { voters = us })) (sym is) (unsent-after es now a (length now.plant.thrusters.items) a3 (omega arith) last r)
+sent-represents es now a vs (Some x) a3 last is r =
+    let n = length now.plant.thrusters.items in
+    let all : sent a x (length now.voters) now.voters ≡ sent a x n now.voters = ap (λ (m : ℕ). sent a x m now.voters) r.thrusters in
+    subst (λ (us : List VoterState). Represents (order_events a n es) (record now { voters = us })) (sym (is ∙ all)) (sent-after es now a x n a3 (omega arith) last r)
+
+-- ---- in code: one voter after another
+
+pub sent-length : (a : ℕ) (x : Issue) (n : ℕ) (vs : List VoterState) → length (sent a x n vs) ≡ length vs
+unfolding sent
+sent-length a x zero vs = refl
+sent-length a x (suc n) vs = changed-length (sent a x n vs) n (after_order a (message_of n (Some x))) ∙ sent-length a x n vs
+
+pub sent-count : (a : ℕ) (o : Option Issue) (vs : List VoterState) → length (sent_by a o vs) ≡ length vs
+sent-count a None vs = refl
+sent-count a (Some x) vs = sent-length a x (length vs) vs
+
+pub sent-view : (es : List Event) (w now : WorldState) (a : ℕ) (vs : List VoterState) → w ≡ now → a < 3 → vs ≡ sent_by a (last_of (slice_get w.computers a)) w.voters → Represents es now → Represents (order_events a (length now.plant.thrusters.items) es) (record w { voters = vs })
+sent-view es w now a vs same a3 is r =
+    let old : Represents es w = subst (Represents es) (sym same) r in
+    subst (λ (v : WorldState). Represents (order_events a (length v.plant.thrusters.items) es) (record w { voters = vs })) same (sent-represents es w a vs (last_of (slice_get w.computers a)) a3 refl is old)
+
+-- an issue with no force for this voter
+pub sent-nothing : (a : ℕ) (x : Issue) (k : ℕ) (vs : List VoterState) → slice_get x.forces.items k ≡ None → vs ≡ change_at vs k (after_order a (message_of k (Some x)))
+unfolding message_of
+sent-nothing a x k vs none =
+    let says : None ≡ message_of k (Some x) = sym (ap (option_map (λ (f : ℤ). record { cycle = x.cycle; force = f })) none) in
+    sym (changed-same vs k) ∙ ap (λ (o : Option Message). change_at vs k (after_order a o)) says
+
+-- the voter at k was read, and what it is after the order was written
+pub sent-one : (a : ℕ) (x : Issue) (k : ℕ) (vs new : List VoterState) (v y : VoterState) (g f : ℤ) (t : Took) → slice_get x.forces.items k ≡ Some f → k < length vs → v ≡ get_or vs k v → g ≡ f → y ≡ ordered (get_or vs k v) a g t → t ≡ answer_of (get_or vs k v) a x.cycle g → new ≡ set vs k y → new ≡ change_at vs k (after_order a (message_of k (Some x)))
+unfolding message_of
+sent-one a x k vs new v y g f t there l read same o q written =
+    let says : Some (record { cycle = x.cycle; force = f }) ≡ message_of k (Some x) = sym (ap (option_map (λ (z : ℤ). record { cycle = x.cycle; force = z })) there) in
+    let y_is = say-is (get_or vs k v) y a x.cycle g f t same o q in
+    changed-read vs vs new k v y (after_order a (Some (record { cycle = x.cycle; force = f }))) refl l read y_is written
+    ∙ ap (λ (m : Option Message). change_at vs k (after_order a m)) says
+
+pub sent-next : (a : ℕ) (x : Issue) (k : ℕ) (vs now new : List VoterState) → now ≡ sent a x k vs → new ≡ change_at now k (after_order a (message_of k (Some x))) → new ≡ sent a x (k + 1) vs
+unfolding sent
+sent-next a x k vs now new is e =
+    let next : suc k ≡ k + 1 = omega arith in
+    subst (λ (n : ℕ). new ≡ sent a x n vs) next (e ∙ ap (λ (us : List VoterState). change_at us k (after_order a (message_of k (Some x)))) is)
+
+pub sent-none_yet : (a : ℕ) (x : Issue) (vs : List VoterState) → vs ≡ sent a x 0 vs
+unfolding sent
+sent-none_yet a x vs = refl
+
+refilled : (vs us : List VoterState) → length us ≡ length vs → refill (length vs) vs us ≡ us
+refilled [] [] e = refl
+refilled [] (u ∷ us) e = absurd (omega (arith, e))
+refilled (v ∷ vs) [] e = absurd (omega (arith, e))
+refilled (v ∷ vs) (u ∷ us) e = ap (λ ws. u ∷ ws) (refilled vs us (omega (arith, e)))
+
+-- the voters as one slice, written back
+pub sent-back : (a : ℕ) (x : Issue) (vs us new : List VoterState) → us ≡ sent a x (length vs) vs → new ≡ refill (length vs) vs us → new ≡ sent a x (length vs) vs
+sent-back a x vs us new is e =
+    let same : length us ≡ length vs = ap length is ∙ sent-length a x (length vs) vs in
+    e ∙ (refilled vs us same ∙ is)
 
 -- ---- what is seen of an event
 

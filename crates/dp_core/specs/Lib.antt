@@ -12,6 +12,7 @@ pub mod OnReference
 pub mod Shown
 pub mod WorldState
 pub mod WorldView
+pub mod Several
 pub mod Laws
 pub mod Represents
 pub use Rattle.dp_exchange.specs.{after_offer, after_restart, after_run, after_skew, after_stop, after_upgrade, after_wire, first_computer, is_live, mode_of, offer_answer, offered_by, run_answer, skew_answer, text_at, told_text, wire_answer}
@@ -23,7 +24,8 @@ pub use Rattle.dp_core.specs.CycleAlarms.{alarms_in, cycle_alarms}
 pub use Rattle.dp_core.specs.History.{answer_in, answer_to_offer, answer_to_run, answers_to_wire, history, seen_of}
 pub use Rattle.dp_core.specs.Shown.{IsLeftOf, IsMachineOf, spelling_at}
 pub use Rattle.dp_core.specs.Faulty.{AtMostOneFaulty}
-pub use Rattle.dp_core.specs.WorldState.{IsAllowed, after, change_at, last_of, message_by, text_answer, voter_of, with_text}
+pub use Rattle.dp_core.specs.WorldState.{IsAllowed, after, after_order, change_at, last_of, message_by, text_answer, voter_of, with_text}
+pub use Rattle.dp_core.specs.Several.{order_events, sent, sent_by}
 pub use Rattle.dp_core.specs.WorldView.{IsInStep, IsWorld, world_of}
 pub use Rattle.dp_core.specs.Laws.{AdoptedIsReference, FreshIsReference, HeldIsOwn, SkewedIsFaulty, TakenIsOwn, TrajectoriesAreReference, TwoHeardAreFresh}
 -- what a world's contracts name of the crates below, and of the types

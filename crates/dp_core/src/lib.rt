@@ -7,6 +7,7 @@
 //! the latter with the newer software: it waits until two others offer it the same state by a Tell each, and goes on from that one. Skew,
 //! Say, Lie and Stop are faults: a computer's estimate is put at rest at a false place, a computer orders any force, it offers any bytes
 //! as its state, it is switched off. Nothing is promised of the order of events: frames may wait, orders and offers may get lost.
+//! [`World::advance`] and [`World::order_all`] are several events in a row, and take fewer steps than those events one by one.
 //!
 //! No history is stored, and yet the contracts speak of it. `specs/History` looks back over a list of events, the newest first: each
 //! stands beside what was seen of it. What a computer's mode, trajectory and last issue are, and which orders and ballots a voter gave,

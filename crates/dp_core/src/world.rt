@@ -3,10 +3,10 @@ ghost use Rattle.std.specs.Prelude.{◌≡◌, ◌≢◌, ◌<◌, ◌≤ℤ◌,
 ghost use Rattle.std.specs.Option.{option_map};
 ghost use Rattle.dp_plant.specs.{IsFrameInRange, IsVectorWithin};
 ghost use Rattle.dp_machine.specs.{IsAcceptedPlant};
-ghost use Rattle.dp_core.specs.{Event, IsAllowed, IsInStep, Thruster, VoterState, after, after_wire, alarms_in, answer, answer_if, answer_of};
+ghost use Rattle.dp_core.specs.{Event, IsAllowed, IsInStep, Thruster, VoterState, after, after_run, after_wire, alarms_in, answer, answer_if, answer_of};
 ghost use Rattle.dp_core.specs.{IsLeftOf, IsMachineOf, answer_in, answer_to_offer, answer_to_run, answers_to_wire, ballot, begun, change_at, cycle_alarms, history};
 ghost use Rattle.dp_core.specs.{is_live, last_issue, last_of, offered, software, spelling_at, text_answer, told_text};
-ghost use Rattle.dp_core.specs.{with_text};
+ghost use Rattle.dp_core.specs.{after_order, order_events, sent, sent_by, with_text};
 ghost use Rattle.dp_core.specs.{message_by, message_of, mode, seen_of, taken_forces, voter_of, wire_answer};
 ghost use Rattle.dp_codec.specs.{IsSoftware, state_read};
 ghost use Rattle.dp_exchange.specs.ComputerState.{ComputerState, InControl};
@@ -129,6 +129,20 @@ impl World {
         answers
     }
 
+    /// The frame of the next cycle comes to all computers, the voters' next cycle begins, and each computer, in rising order, processes
+    /// the frame that waits longest: what [`World::wire`] and then three times [`World::run`] do.
+    pub fn advance(&mut self, f: &Frame)
+        requires next { f.now.cycle ≡ self.old.cycles_begun }
+        requires within { IsFrameInRange self.old.plant.groups f.now }
+        ensures represents { (es : List Event) → Represents es self.old
+            → Represents (Run 2 ∷ Run 1 ∷ Run 0 ∷ Wire f.now ∷ es) self.new }
+        ensures plant { self.new.plant ≡ self.old.plant }
+    {
+        advance_all(&mut self.computers, f);
+        begin_all(&mut self.voters, f.cycle);
+        self.cycles_begun += 1;
+    }
+
     /// A computer, 0 to 2, processes the frame that waits longest.
     pub fn run(&mut self, c: u8) -> Ran
         requires { c < 3 }
@@ -155,6 +169,16 @@ impl World {
     {
         let (cycle, force) = self.message(from, voter)?;
         Some(self.deliver(from, voter, cycle, force))
+    }
+
+    /// The last issue of a computer is delivered to all voters, in rising order: what [`World::order`] does to each.
+    pub fn order_all(&mut self, from: u8)
+        requires { from < 3 }
+        ensures represents { (es : List Event) → Represents es self.old
+            → Represents (order_events from (length self.old.plant.thrusters.items) es) self.new }
+        ensures plant { self.new.plant ≡ self.old.plant }
+    {
+        order_between(&self.computers, from, &mut self.voters);
     }
 
     /// A computer offers its state to another one, in the spelling of its own software; none where it isn't live.
@@ -401,6 +425,51 @@ fn wire_all(computers: &mut [Computer; 3], f: &Frame) -> [Heard; 3]
         computers[1].hear(f),
         computers[2].hear(f),
     ]
+}
+
+fn advance_all(computers: &mut [Computer; 3], f: &Frame)
+    requires in_step { (c : ℕ) (x : ComputerState) → slice_get computers.old c ≡ Some x
+        → IsInStep f.now.cycle x }
+    requires within { (c : ℕ) (x : ComputerState) → slice_get computers.old c ≡ Some x
+        → IsFrameInRange x.plant.groups f.now }
+    ensures { computers.new ≡ map (λ x. after_run (after_wire x f.now)) computers.old }
+{
+    computers[0].advance(f);
+    computers[1].advance(f);
+    computers[2].advance(f);
+}
+
+/// The last issue of a computer is delivered to all voters; nothing is where it has none.
+fn order_between(computers: &[Computer; 3], from: u8, voters: &mut ArrayVec<Voter, 12>)
+    requires { from < 3 }
+    ensures { voters.new.items
+        ≡ sent_by from (last_of (slice_get computers.now from)) voters.old.items }
+{
+    if let Some(issue) = computers[from as usize].last() {
+        deliver_all(voters.as_mut_slice(), from, issue);
+    }
+}
+
+/// The forces of an issue are ordered, each of its voter.
+fn deliver_all(voters: &mut [Voter], from: u8, issue: &Issue)
+    requires { from < 3 }
+    ensures { voters.new ≡ sent from issue.now (length voters.old) voters.old }
+{
+    for k in 0..voters.len() {
+        deliver_at(voters, from, issue, k);
+    }
+}
+
+/// The force of one thruster is ordered of its voter, where the issue has one.
+fn deliver_at(voters: &mut [Voter], from: u8, issue: &Issue, k: usize)
+    requires computer { from < 3 }
+    requires voter { k < length voters.old }
+    ensures { voters.new
+        ≡ change_at voters.old k (after_order from (message_of k (Some issue.now))) }
+{
+    if let Some(force) = issue.forces.as_slice().get(k) {
+        let _took = voters[k].order(from, issue.cycle, *force);
+    }
 }
 
 /// One computer offers its state to another, by a text; none where it isn't live.

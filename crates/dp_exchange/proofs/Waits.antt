@@ -46,6 +46,18 @@ IsWaiting-pop g a b next w le is =
     } in
     subst (λ (v : Buffer Frame). IsWaiting g v next) (sym is) fresh
 
+pub no_items : (fs : List Frame) → length fs ≡ 0 → fs ≡ []
+no_items [] e = refl
+no_items (f ∷ fs) e = absurd (omega (arith, e))
+
+-- where none waits, none waits after the next frame
+pub IsWaiting-none : (g : ℕ) (b : Buffer Frame) (before next : ℕ) → IsWaiting g b before → length b.items ≡ 0 → IsWaiting g b next
+IsWaiting-none g b before next w none =
+    let empty = no_items b.items none in
+    let fresh : (fs : List Frame) → fs ≡ [] → IsWaiting g (record { items = fs; capacity = b.capacity }) next = λ fs is. subst (λ (gs : List Frame). IsWaiting g (record { items = gs; capacity = b.capacity }) next) (sym is)
+    (record { capacity = w.capacity; few = omega arith; enough = omega arith; frames = omega arith; within = tt }) in
+    fresh b.items empty
+
 -- no frame is left
 pub IsWaiting-clear : (g : ℕ) (b : Buffer Frame) (next : ℕ) → b ≡ buffer [] 16 → IsWaiting g b next
 IsWaiting-clear g b next is =

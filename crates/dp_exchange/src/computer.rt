@@ -1,5 +1,6 @@
 //! One computer of three, call by call.
-ghost use Rattle.std.specs.Prelude.{◌≡◌, ◌≢◌, ◌<◌, ◌≤◌, ◌^◌, ℕ, IfOk, option_copied};
+ghost use Rattle.std.specs.Prelude.{◌≡◌, ◌≢◌, ◌<◌, ◌≤◌, ◌^◌, ◌==◌, ◌&&◌, ◌∷◌, ◌++◌, ℕ, [], IfOk, drop, length, option_copied, true};
+ghost use Rattle.circular_buffer.specs.Buffer.{buffer, keep_last};
 ghost use Rattle.dp_plant.specs.{IsFrameInRange, IsVectorWithin};
 ghost use Rattle.dp_plant.specs.declared.voting.Mode.TheVariants.{Off};
 ghost use Rattle.dp_machine.specs.{IsAcceptedPlant};
@@ -19,6 +20,7 @@ use dp_machine::Machine;
 use dp_plant::{Frame, Memory, Mode, Place, Plant};
 use std::alloc::Global;
 use std::marker::Model;
+use std::slice;
 
 /// The software that a computer begins with, and the newer one.
 const FIRST: u8 = 1;
@@ -116,13 +118,13 @@ impl Computer {
         match self.mode {
             Mode::Off => Heard::Deaf,
             Mode::Aligning => {
-                let _oldest = self.waits.push_back(*f);
+                enter(&mut self.waits, f);
                 self.next += 1;
                 Heard::Kept
             }
             Mode::Live => {
                 let is_full = self.waits.is_full();
-                let _oldest = self.waits.push_back(*f);
+                enter(&mut self.waits, f);
                 self.next += 1;
                 if is_full {
                     self.mode = Mode::Aligning;
@@ -144,14 +146,29 @@ impl Computer {
         match self.mode {
             Mode::Off => Ran::Off,
             Mode::Aligning => Ran::Aligning,
-            Mode::Live => match self.waits.pop_front() {
+            Mode::Live => match self.waits.front() {
                 None => Ran::Idle,
                 Some(f) => {
-                    let issue = self.machine.step(&f);
+                    let issue = self.machine.step(f);
+                    leave(&mut self.waits);
                     self.last = Some(issue.copy());
                     Ran::Issued(issue)
                 }
             },
+        }
+    }
+
+    /// Takes in the next frame, and steps over the oldest one that waits: what [`Computer::hear`] and then [`Computer::run`] do. Where
+    /// none waited, the frame is stepped over where it lies.
+    pub fn advance(&mut self, f: &Frame)
+        requires next { mode_of self.old.control ≢ Off → f.now.cycle ≡ self.old.next }
+        requires within { IsFrameInRange self.old.plant.groups f.now }
+        ensures { self.new ≡ after_run (after_wire self.old f.now) }
+    {
+        if self.is_up_to_date() {
+            self.step_over(f);
+        } else {
+            self.hear_and_run(f);
         }
     }
 
@@ -301,4 +318,50 @@ impl Computer {
     {
         self.machine
     }
+
+    /// It is live, and no frame waits.
+    fn is_up_to_date(&self) -> bool
+        ensures { result ≡ (is_live (mode_of self.now.control) && length self.now.waits == 0) }
+    {
+        self.mode == Mode::Live && self.waits.is_empty()
+    }
+
+    /// Steps over the next frame at once.
+    fn step_over(&mut self, f: &Frame)
+        requires next { mode_of self.old.control ≢ Off → f.now.cycle ≡ self.old.next }
+        requires within { IsFrameInRange self.old.plant.groups f.now }
+        requires live { is_live (mode_of self.old.control) ≡ true }
+        requires none { length self.old.waits ≡ 0 }
+        ensures { self.new ≡ after_run (after_wire self.old f.now) }
+    {
+        self.offers.forget();
+        self.next += 1;
+        self.last = Some(self.machine.step(f));
+    }
+
+    fn hear_and_run(&mut self, f: &Frame)
+        requires next { mode_of self.old.control ≢ Off → f.now.cycle ≡ self.old.next }
+        requires within { IsFrameInRange self.old.plant.groups f.now }
+        ensures { self.new ≡ after_run (after_wire self.old f.now) }
+    {
+        let _heard = self.hear(f);
+        let _ran = self.run();
+    }
+}
+
+/// A frame comes in; of a full ring the oldest falls out.
+fn enter(waits: &mut HeapCircularBuffer<Frame>, f: &Frame)
+    ensures { let all = waits.old.items ++ f.now ∷ [] in
+        waits.new ≡ buffer (keep_last waits.old.capacity all) waits.old.capacity }
+{
+    waits.extend_from_slice(slice::from_ref(f));
+}
+
+/// The oldest frame falls out.
+fn leave(waits: &mut HeapCircularBuffer<Frame>)
+    requires { 0 < length waits.old.items }
+    ensures { waits.new ≡ buffer (drop 1 waits.old.items) waits.old.capacity }
+{
+    let count = waits.len();
+    waits.truncate_front(count - 1);
 }

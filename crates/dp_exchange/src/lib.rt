@@ -6,8 +6,8 @@
 //!
 //! **Frames.** [`Computer::hear`] takes in the frame of the next cycle, and [`Computer::run`] steps the machine over the oldest one that
 //! waits, which gives an [`Issue`]. Up to 16 frames wait. A live computer in which 16 wait already fell behind: one more is an overrun, and
-//! it has to be aligned. An aligning computer keeps the newest 16 frames, so that it can catch up when it comes back. [`Computer::last`] is
-//! what it issued last since it started.
+//! it has to be aligned. An aligning computer keeps the newest 16 frames, so that it can catch up when it comes back. [`Computer::advance`]
+//! does both, and copies no frame where none waited. [`Computer::last`] is what it issued last since it started.
 //!
 //! **Coming back.** [`Computer::tell`] writes a live computer's state as bytes (`dp_codec`), and [`Computer::offer`] takes such bytes from
 //! another computer. No computer is believed alone: the first state is kept, and only where another computer has offered the same state

@@ -89,7 +89,7 @@ more-is (Closed frame empty) e = absurd cc
 more-is (Fault line kind) e = absurd cc
 more-is (TooMany line cycle) e = absurd cc
 
-told-more : (r : Refusal) → told r ≡ More → ⊥
+pub told-more : (r : Refusal) → told r ≡ More → ⊥
 told-more (refusal.Faulty line kind) is = cc
 told-more (refusal.TooMany line cycle) is = cc
 

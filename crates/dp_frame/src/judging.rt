@@ -1,5 +1,5 @@
 //! The judgement on one line.
-ghost use Rattle.std.specs.Prelude.{◌≡◌, IfSome};
+ghost use Rattle.std.specs.Prelude.{◌≡◌, ◌<◌, ◌≤◌, IfSome, take};
 ghost use Rattle.dp_frame.specs.{IsJudgedWithin, IsReadable, IsWire, judge, judge_rest, judge_time, judge_wire, name_len, number_of, time_len};
 
 use crate::LineFault;
@@ -8,7 +8,6 @@ use crate::sensing::content;
 use crate::settings::Settings;
 use crate::wires::wire;
 use dp_plant::Wire;
-use dp_text::decimal;
 
 const SPACE: u8 = b' ';
 
@@ -41,32 +40,37 @@ fn judge_time(settings: &Settings, last: u64, line: &[u8]) -> Judged
     ensures value { result ≡ judge_time settings.now last line.now }
     ensures within { IsJudgedWithin settings.now.groups result }
 {
-    let count = time_len(line);
+    let (count, now) = time(line);
     if count == 0 {
         return Judged::Faulty(LineFault::NoTime);
     }
     if count > MOST_DIGITS || count >= line.len() || line[count] != SPACE {
         return Judged::Faulty(LineFault::BadTime);
     }
-    let now = number(&line[..count]);
     if now < last {
         return Judged::Faulty(LineFault::TimeBack { before: last, now });
     }
     judge_wire(settings, now, &line[count + 1..])
 }
 
-/// How many digits a line begins with.
-fn time_len(line: &[u8]) -> usize
-    ensures { result ≡ time_len line.now }
+/// How many digits a line begins with, counted up to 16, and the number that they make.
+fn time(line: &[u8]) -> (usize, u64)
+    ensures few { result.0 ≤ 15 → result.0 ≡ time_len line.now }
+    ensures many { 15 < result.0 → 15 < time_len line.now }
+    ensures number { 0 < result.0 → result.0 ≤ 15 → result.1 ≡ number_of (take result.0 line.now) }
 {
-    line.iter().take_while(|byte| byte.is_ascii_digit()).count()
-}
-
-/// The number that up to 15 digits make.
-fn number(digits: &[u8]) -> u64
-    ensures { result ≡ number_of digits.now }
-{
-    decimal(digits, MOST_DIGITS).unwrap_or(0)
+    let most = line.len().min(MOST_DIGITS + 1);
+    let mut count = 0;
+    let mut value = 0u64;
+    while count < most {
+        let byte = line[count];
+        if !byte.is_ascii_digit() {
+            return (count, value);
+        }
+        value = value * 10 + u64::from(byte - b'0');
+        count += 1;
+    }
+    (count, value)
 }
 
 /// What stands after the time.

@@ -153,11 +153,23 @@ impl Lines {
         while taken < piece.len() {
             let (count, ended) = self.take_line(&piece[taken..]);
             taken += count;
-            if !is_nothing(ended) {
-                return Fed {
-                    taken,
-                    feed: self.feed_of(ended),
-                };
+            match ended {
+                Ended::Nothing => (),
+                Ended::Cycle { empty } => {
+                    return Fed {
+                        taken,
+                        feed: Feed::Closed {
+                            frame: self.progress.over,
+                            empty,
+                        },
+                    };
+                }
+                Ended::Record(refusal) => {
+                    return Fed {
+                        taken,
+                        feed: refusal.told(),
+                    };
+                }
             }
         }
         Fed {

@@ -1,5 +1,6 @@
 //! The local frame: places in nanometres north and east of an origin.
-ghost use Rattle.std.specs.Prelude.{◌≡◌, ◌^◌, ◌≤◌, IfSome, unsigned_abs};
+ghost use Rattle.std.specs.Prelude.{◌≡◌, ◌^◌, ◌≤◌, ◌-ℤ◌, ◌*ℤ◌, IfSome, pos, unsigned_abs};
+ghost use Rattle.dp_fixed.specs.{floor_of, full_scale, wrap_of};
 ghost use Rattle.dp_plant.specs.{IsVectorWithin};
 ghost use Rattle.dp_frame.specs.LocalFrame as LocalFrame;
 ghost use Rattle.dp_frame.specs.LocalFrame.{IsCosineAt, IsOrigin, local_of, origin_of};
@@ -15,11 +16,17 @@ const ARC_LENGTH: i64 = 185_200;
 /// All degrees of longitude, in 10^-7 minutes.
 const WHOLE_TURN: i128 = 216_000_000_000;
 
+/// Half of them.
+const HALF_TURN: i64 = 108_000_000_000;
+
 /// A hundredth of a degree, in 10^-7 minutes.
 const HUNDREDTH: u64 = 6_000_000;
 
 /// How far a coordinate may be from the origin, in nanometres.
-const LIMIT: u128 = 1 << 43;
+const LIMIT: u64 = 1 << 43;
+
+/// No angle is above this, in 10^-7 minutes.
+const MOST: u64 = 1 << 37;
 
 /// The origin of the local frame; a contract sees its latitude and longitude, in 10^-7 minutes.
 ///
@@ -68,8 +75,24 @@ impl Origin {
         ensures value { result ≡ local_of self.now lat lon }
         ensures within { IfSome result (λ p. IsVectorWithin (2 ^ 43) p) }
     {
-        place_in_frame(northing(self.lat, lat), easting(self.cosine, self.lon, lon))
+        place_from(self.lat, self.lon, self.cosine, lat, lon)
     }
+}
+
+/// The place of a latitude and a longitude, seen from an origin's, where parallels have this cosine.
+#[tactic(auto, using(crate::proofs::NearTurns::far_north))]
+fn place_from(lat0: i64, lon0: i64, cosine: i64, lat: i64, lon: i64) -> Option<Place>
+    requires lat0 { unsigned_abs lat0 ≤ 53400000000 }
+    requires lon0 { unsigned_abs lon0 ≤ 2 ^ 37 }
+    requires cosine { unsigned_abs cosine ≤ 2 ^ 30 }
+    ensures value { result ≡ LocalFrame.place_in_frame (LocalFrame.northing lat0 lat)
+        (LocalFrame.easting cosine lon0 lon) }
+    ensures within { IfSome result (λ p. IsVectorWithin (2 ^ 43) p) }
+{
+    if lat.unsigned_abs() > MOST {
+        return None;
+    }
+    place_in_frame(northing(lat0, lat), easting(cosine, lon0, lon))
 }
 
 /// The cosine of a latitude, from the sine pairs of whole hundredths of a degree.
@@ -82,31 +105,74 @@ fn cosine_of(lat: i64, trig: &Trig) -> i64
 }
 
 /// How far `lat` is north of `lat0`.
-fn northing(lat0: i64, lat: i64) -> i128
+fn northing(lat0: i64, lat: i64) -> i64
+    requires origin { unsigned_abs lat0 ≤ 2 ^ 37 }
+    requires place { unsigned_abs lat ≤ 2 ^ 37 }
     ensures { result ≡ LocalFrame.northing lat0 lat }
 {
-    product(ARC_LENGTH, difference(lat as i128, lat0 as i128))
+    along(less(lat, lat0))
 }
 
 /// How far `lon` is east of `lon0` along a parallel whose cosine this is.
-fn easting(cosine: i64, lon0: i64, lon: i64) -> i128
-    requires { unsigned_abs cosine ≤ 2 ^ 30 }
+fn easting(cosine: i64, lon0: i64, lon: i64) -> i64
+    requires cosine { unsigned_abs cosine ≤ 2 ^ 30 }
+    requires origin { unsigned_abs lon0 ≤ 2 ^ 37 }
     ensures { result ≡ LocalFrame.easting cosine lon0 lon }
 {
-    let minutes = wrap(difference(lon as i128, lon0 as i128), WHOLE_TURN);
-    floor_div(product(cosine, product(ARC_LENGTH, minutes)), Q)
+    shortened(cosine, along(nearest(lon0, lon)))
+}
+
+/// The length of an angle along the equator, in nanometres.
+fn along(minutes: i64) -> i64
+    requires { unsigned_abs minutes ≤ 2 ^ 38 }
+    ensures value { result ≡ LocalFrame.arc_length *ℤ minutes }
+    ensures bound { unsigned_abs result ≤ 2 ^ 56 }
+{
+    ARC_LENGTH * minutes
+}
+
+/// A length along the equator, shortened to a parallel of this cosine, and rounded down.
+fn shortened(cosine: i64, length: i64) -> i64
+    requires cosine { unsigned_abs cosine ≤ 2 ^ 30 }
+    requires length { unsigned_abs length ≤ 2 ^ 56 }
+    ensures { result ≡ floor_of (cosine *ℤ length) full_scale }
+{
+    narrow(floor_div(product(cosine, length as i128), Q))
+}
+
+/// How far `lon` is from `lon0`, the short way round. Most differences are less than half a turn as they stand.
+#[tactic(auto, using(crate::proofs::NearTurns::wrap_near))]
+fn nearest(lon0: i64, lon: i64) -> i64
+    requires origin { unsigned_abs lon0 ≤ 2 ^ 37 }
+    ensures value { result ≡ wrap_of (lon -ℤ lon0) (pos 216000000000) }
+    ensures bound { unsigned_abs result ≤ 2 ^ 37 }
+{
+    if lon.unsigned_abs() <= MOST {
+        let minutes = less(lon, lon0);
+        if -HALF_TURN <= minutes && minutes < HALF_TURN {
+            return minutes;
+        }
+    }
+    narrow(wrap(difference(lon as i128, lon0 as i128), WHOLE_TURN))
+}
+
+/// The difference of two angles.
+fn less(a: i64, b: i64) -> i64
+    requires a { unsigned_abs a ≤ 2 ^ 37 }
+    requires b { unsigned_abs b ≤ 2 ^ 37 }
+    ensures value { result ≡ a -ℤ b }
+    ensures bound { unsigned_abs result ≤ 2 ^ 38 }
+{
+    a - b
 }
 
 /// The place with these coordinates, if both lie in the frame.
-fn place_in_frame(north: i128, east: i128) -> Option<Place>
+fn place_in_frame(north: i64, east: i64) -> Option<Place>
     ensures value { result ≡ LocalFrame.place_in_frame north east }
     ensures within { IfSome result (λ p. IsVectorWithin (2 ^ 43) p) }
 {
     if north.unsigned_abs() <= LIMIT && east.unsigned_abs() <= LIMIT {
-        Some(Place {
-            north: narrow(north),
-            east: narrow(east),
-        })
+        Some(Place { north, east })
     } else {
         None
     }

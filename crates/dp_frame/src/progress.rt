@@ -146,8 +146,15 @@ fn begin(kept: &mut Frame, over: &mut Frame, cycle: u64)
     ensures kept { kept.new ≡ no_frame cycle }
     ensures range { cycle < 2 ^ 20 → (groups : ℕ) → IsFrameInRange groups kept.new }
 {
-    *over = *kept;
+    set_aside(kept, over);
     *kept = empty_frame(cycle);
+}
+
+/// Copies a frame. In a function of its own it is one move, with no copy between.
+fn set_aside(kept: &Frame, over: &mut Frame)
+    ensures { over.new ≡ kept.now }
+{
+    *over = *kept;
 }
 
 impl Refusal {

@@ -1,6 +1,11 @@
 //! What stands after the wire.
-ghost use Rattle.std.specs.Prelude.{◌≡◌, IfOk};
+ghost use Rattle.std.specs.Prelude.{◌≡◌, IfOk, IfSome, Some, None, is_some, true, false};
+ghost use Rattle.dp_sentence.specs.Address.{formatter};
+ghost use Rattle.dp_sentence.specs.Damage.{damage};
+ghost use Rattle.dp_sentence.specs.Fields.{fields};
 ghost use Rattle.dp_nav.specs.{IsReadingWithin, is_plain};
+ghost use Rattle.dp_nav.specs.Plain.{plain_of};
+ghost use Rattle.dp_nav.specs.Sensed.{sensed_of};
 ghost use Rattle.dp_frame.specs.{IsContentWithin, content_by, content_of, kind_of};
 
 use crate::Origin;
@@ -17,17 +22,28 @@ pub(crate) fn content(settings: &Settings, wire: Wire, rest: &[u8]) -> Content
     ensures value { result ≡ content_of settings.now wire rest.now }
     ensures within { IsContentWithin result }
 {
-    let kind = kind_of(wire);
+    match said(kind_of(wire), rest) {
+        Some(said) => content_by(&settings.origin, said),
+        None => Content::Damaged,
+    }
+}
+
+/// What a plain form or a sentence says; nothing where it is neither.
+fn said(kind: WireKind, rest: &[u8]) -> Option<Result<Reading, Skip>>
+    ensures plain { is_plain rest.now ≡ true → result ≡ Some (plain_of kind rest.now) }
+    ensures sentence { is_plain rest.now ≡ false → is_some (damage rest.now) ≡ false
+        → result ≡ Some (sensed_of kind (formatter rest.now) (fields rest.now)) }
+    ensures damaged { is_plain rest.now ≡ false → is_some (damage rest.now) ≡ true
+        → result ≡ None }
+    ensures within { IfSome result (λ said. IfOk said IsReadingWithin) }
+{
     if is_plain(rest) {
-        return content_by(&settings.origin, plain(kind, rest));
+        return Some(plain(kind, rest));
     }
     let mut fields: ArrayVec<&[u8], FIELDS_READ> = ArrayVec::new();
     match read_first(rest, &mut fields) {
-        Ok(address) => content_by(
-            &settings.origin,
-            sensed_first(kind, address.formatter, fields.as_slice()),
-        ),
-        Err(_) => Content::Damaged,
+        Ok(address) => Some(sensed_first(kind, address.formatter, fields.as_slice())),
+        Err(_) => None,
     }
 }
 

@@ -1,5 +1,5 @@
 -- The fused place lies within the hull of any two of the places that it is made of.
-use Rattle.std.proofs.Common.{◌≡◌, refl, [], ◌∷◌, Option, Some, None, sym, subst, pos, ◌≤ℤ◌}
+use Rattle.std.proofs.Common.{refl, [], ◌∷◌, Option, Some, None, sym, subst, pos, ◌≤ℤ◌}
 use Rattle.std.specs.List.{cons_option}
 use Rattle.dp_fixed.proofs.Clamps.{middle_is}
 use Rattle.dp_fuse.specs.declared.places.WeightedPlace.{WeightedPlace}

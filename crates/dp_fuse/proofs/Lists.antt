@@ -3,7 +3,7 @@ use Rattle.std.proofs.Common.{◌≡◌, refl, ap, ◌∙◌, sym, ℕ, [], map,
 use Rattle.std.specs.List.{cons_option}
 use Rattle.std.specs.Option.{option_map}
 use Rattle.dp_plant.specs.declared.frames.Gust.{Gust}
-use Rattle.dp_fuse.specs.declared.weighted.Weighted.{Weighted}
+use Rattle.dp_plant.specs.declared.place.Place.{Place}
 use Rattle.dp_fuse.specs.Angles.{fused_angle, turned_by, weighted_turn}
 use Rattle.dp_fuse.specs.Fuse.{fuse}
 use Rattle.dp_fuse.specs.Gusts.{fused_gust, gust_of, weighted_speed}
@@ -19,6 +19,9 @@ map_three f (Some x) None None = refl
 map_three f (Some x) None (Some z) = refl
 map_three f (Some x) (Some y) None = refl
 map_three f (Some x) (Some y) (Some z) = refl
+
+pub place_is : (n e m k : ℤ) → n ≡ m → e ≡ k → ◌≡◌ {A = Place} (record { north = n; east = e }) (record { north = m; east = k })
+place_is n e m k north east = rw (north, east) refl
 
 pub angle_is : (base : ℕ) (a b c : Option ℕ) (t : Option ℤ) (r : Option ℕ) →
     t ≡ fuse (cons_option (option_map (weighted_turn base) a) (cons_option (option_map (weighted_turn base) b) (cons_option (option_map (weighted_turn base) c) []))) →

@@ -1,10 +1,10 @@
 ghost use Rattle.std.specs.Prelude.{◌≡◌, ◌≤◌, ◌<◌, ◌^◌, IfSome, pos, ◌-ℤ◌, ◌+ℤ◌, unsigned_abs, []};
 ghost use Rattle.std.specs.List.{AllByRecursion, cons_option};
 ghost use Rattle.std.specs.Option.{option_map};
+ghost use Rattle.dp_fixed.specs.{wrap_of};
 ghost use Rattle.dp_fuse.specs.{IsWeighted, fused_angle, present, turn_from, turned_by, weighted_turn};
 
 use crate::weighted::{Weighted, fuse};
-use dp_fixed::{narrow, wrap};
 
 /// The heading of up to three gyros, in hundredths of a degree, below 36000.
 ///
@@ -20,6 +20,22 @@ pub fn heading(h: [Option<u32>; 3], base: u32) -> Option<u32>
 
 /// One angle of those that are there.
 pub(crate) fn fused_angle(base: u32, a: Option<u32>, b: Option<u32>, c: Option<u32>) -> Option<u32>
+    requires base { base < 36000 }
+    requires first { IfSome a (λ a. a < 36000) }
+    requires second { IfSome b (λ a. a < 36000) }
+    requires third { IfSome c (λ a. a < 36000) }
+    ensures value { result ≡ fused_angle base (cons_option a (cons_option b (cons_option c []))) }
+    ensures within { IfSome result (λ a. a < 36000) }
+{
+    match (a, b, c) {
+        (None, None, None) => None,
+        _ => fused_turn(base, a, b, c),
+    }
+}
+
+/// The same, where most often one is there.
+#[inline(never)]
+fn fused_turn(base: u32, a: Option<u32>, b: Option<u32>, c: Option<u32>) -> Option<u32>
     requires base { base < 36000 }
     requires first { IfSome a (λ a. a < 36000) }
     requires second { IfSome b (λ a. a < 36000) }
@@ -53,7 +69,22 @@ fn turn_from(base: u32, angle: u32) -> i64
     ensures value { result ≡ turn_from base angle }
     ensures bound { unsigned_abs result ≤ 18000 }
 {
-    narrow(wrap(angle as i128 - base as i128, 36000))
+    nearest(angle as i64 - base as i64)
+}
+
+/// A difference of two angles, the short way round.
+fn nearest(turn: i64) -> i64
+    requires { unsigned_abs turn < 36000 }
+    ensures value { result ≡ wrap_of turn (pos 36000) }
+    ensures bound { unsigned_abs result ≤ 18000 }
+{
+    if 18000 <= turn {
+        turn - 36000
+    } else if turn < -18000 {
+        turn + 36000
+    } else {
+        turn
+    }
 }
 
 fn angle(base: u32, turned: Option<i64>) -> Option<u32>

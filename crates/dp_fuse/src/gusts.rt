@@ -29,6 +29,22 @@ fn fused_gust(base: u32, a: Option<Gust>, b: Option<Gust>, c: Option<Gust>) -> O
     ensures value { result ≡ fused_gust base (cons_option a (cons_option b (cons_option c []))) }
     ensures within { IfSome result IsGust }
 {
+    match (a, b, c) {
+        (None, None, None) => None,
+        _ => fused_some(base, a, b, c),
+    }
+}
+
+/// The same, where most often one is there.
+#[inline(never)]
+fn fused_some(base: u32, a: Option<Gust>, b: Option<Gust>, c: Option<Gust>) -> Option<Gust>
+    requires base { base < 36000 }
+    requires first { IfSome a IsGust }
+    requires second { IfSome b IsGust }
+    requires third { IfSome c IsGust }
+    ensures value { result ≡ fused_gust base (cons_option a (cons_option b (cons_option c []))) }
+    ensures within { IfSome result IsGust }
+{
     let angle = fused_angle(base, angle_of(a), angle_of(b), angle_of(c));
     gust(angle, fused_speed(a, b, c))
 }

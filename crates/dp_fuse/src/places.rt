@@ -1,13 +1,13 @@
 ghost use Rattle.std.specs.Prelude.{◌≡◌, ◌≤◌, ◌^◌, ◌*◌, All, IfSome, pos, ◌-ℤ◌, ◌+ℤ◌, ◌*ℤ◌, unsigned_abs, []};
 ghost use Rattle.std.specs.List.{AllByRecursion, cons_option};
 ghost use Rattle.std.specs.Option.{option_map};
-ghost use Rattle.dp_fixed.specs.{floor_of, full_scale};
+ghost use Rattle.dp_fixed.specs.{floor_of, full_scale, mid3_of};
 ghost use Rattle.dp_plant.specs.{IsLever, IsMeasuredPlace, IsPair, IsVectorWithin};
 ghost use Rattle.dp_fuse.specs.Places.{arm_east, arm_north, fused_place, fused_position, origin_by, origins_by, place_in, place_of, weighted_east, weighted_north, without_lever};
 ghost use Rattle.dp_fuse.specs.Ranges.{IsUsable, IsVerdictWithin, IsWeighted, IsWeightedPlace};
 
-use crate::weighted::{Weighted, fuse};
-use dp_fixed::{Q, difference, floor_div, narrow, product, sum};
+use crate::weighted::{Weighted, fuse, middle};
+use dp_fixed::{Q, floor_div, narrow, product};
 use dp_plant::{P2, Place, Verdict};
 
 /// Where the vessel is, by how many usable references: the place of its origin in nm, within ±2^44.
@@ -63,6 +63,43 @@ pub fn position(v: &[Verdict; 3], levers: &[P2; 3], pair: (i64, i64)) -> Fused
 
 /// Where the vessel is, by where each reference that is there says that it is.
 fn fused_by(a: Option<WeightedPlace>, b: Option<WeightedPlace>, c: Option<WeightedPlace>) -> Fused
+    requires first { IfSome a IsWeightedPlace }
+    requires second { IfSome b IsWeightedPlace }
+    requires third { IfSome c IsWeightedPlace }
+    ensures value { result ≡ fused_position (cons_option a (cons_option b (cons_option c []))) }
+    ensures place { place_in result
+        ≡ fused_place (cons_option a (cons_option b (cons_option c []))) }
+    ensures within { IfSome (place_in result) IsMeasuredPlace }
+{
+    match (a, b, c) {
+        (Some(a), Some(b), Some(c)) => Fused::Three(middle_place(a.at, b.at, c.at)),
+        _ => fused_by_fewer(a, b, c),
+    }
+}
+
+/// Of three places, in each coordinate the middle.
+fn middle_place(a: Place, b: Place, c: Place) -> Place
+    requires first { IsMeasuredPlace a }
+    requires second { IsMeasuredPlace b }
+    requires third { IsMeasuredPlace c }
+    ensures value { result ≡ record
+        { north = mid3_of a.north b.north c.north; east = mid3_of a.east b.east c.east } }
+    ensures within { IsMeasuredPlace result }
+{
+    Place {
+        north: middle(a.north, b.north, c.north),
+        east: middle(a.east, b.east, c.east),
+    }
+}
+
+/// The same, where most often not all three are there.
+#[cold]
+#[inline(never)]
+fn fused_by_fewer(
+    a: Option<WeightedPlace>,
+    b: Option<WeightedPlace>,
+    c: Option<WeightedPlace>,
+) -> Fused
     requires first { IfSome a IsWeightedPlace }
     requires second { IfSome b IsWeightedPlace }
     requires third { IfSome c IsWeightedPlace }
@@ -174,9 +211,9 @@ fn arm_north(pair: (i64, i64), lever: P2) -> i64
     ensures value { result ≡ arm_north pair lever }
     ensures bound { unsigned_abs result ≤ 2 ^ 40 }
 {
-    let ahead = product(pair.0, lever.0 as i128);
-    let starboard = product(pair.1, lever.1 as i128);
-    nanometres(difference(ahead, starboard))
+    let ahead = turned(pair.0, lever.0);
+    let starboard = turned(pair.1, lever.1);
+    nanometres(apart(ahead, starboard))
 }
 
 /// How far east it reaches, in nm.
@@ -187,13 +224,41 @@ fn arm_east(pair: (i64, i64), lever: P2) -> i64
     ensures value { result ≡ arm_east pair lever }
     ensures bound { unsigned_abs result ≤ 2 ^ 40 }
 {
-    let ahead = product(pair.1, lever.0 as i128);
-    let starboard = product(pair.0, lever.1 as i128);
-    nanometres(sum(ahead, starboard))
+    let ahead = turned(pair.1, lever.0);
+    let starboard = turned(pair.0, lever.1);
+    nanometres(joined(ahead, starboard))
+}
+
+/// A part of a lever arm times a part of a sine pair.
+fn turned(share: i64, part: i64) -> i64
+    requires share { unsigned_abs share ≤ 2 ^ 30 }
+    requires part { unsigned_abs part ≤ 500000 }
+    ensures value { result ≡ share *ℤ part }
+    ensures bound { unsigned_abs result ≤ 2 ^ 30 * 500000 }
+{
+    narrow(product(share, part as i128))
+}
+
+fn apart(a: i64, b: i64) -> i64
+    requires a { unsigned_abs a ≤ 2 ^ 30 * 500000 }
+    requires b { unsigned_abs b ≤ 2 ^ 30 * 500000 }
+    ensures value { result ≡ a -ℤ b }
+    ensures bound { unsigned_abs result ≤ 2 ^ 30 * 1000000 }
+{
+    a - b
+}
+
+fn joined(a: i64, b: i64) -> i64
+    requires a { unsigned_abs a ≤ 2 ^ 30 * 500000 }
+    requires b { unsigned_abs b ≤ 2 ^ 30 * 500000 }
+    ensures value { result ≡ a +ℤ b }
+    ensures bound { unsigned_abs result ≤ 2 ^ 30 * 1000000 }
+{
+    a + b
 }
 
 /// Millimetres times the scale, in whole nanometres.
-fn nanometres(millimetres: i128) -> i64
+fn nanometres(millimetres: i64) -> i64
     requires { unsigned_abs millimetres ≤ 2 ^ 30 * 1000000 }
     ensures value { result ≡ floor_of (pos (10 ^ 6) *ℤ millimetres) full_scale }
     ensures bound { unsigned_abs result ≤ 2 ^ 40 }
@@ -201,10 +266,10 @@ fn nanometres(millimetres: i128) -> i64
     narrow(floor_div(millionfold(millimetres), Q))
 }
 
-fn millionfold(x: i128) -> i128
+fn millionfold(x: i64) -> i128
     requires { unsigned_abs x ≤ 2 ^ 30 * 1000000 }
     ensures value { result ≡ pos (10 ^ 6) *ℤ x }
     ensures bound { unsigned_abs result ≤ 2 ^ 30 * 1000000000000 }
 {
-    1_000_000 * x
+    1_000_000 * x as i128
 }

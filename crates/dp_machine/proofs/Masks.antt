@@ -1,7 +1,8 @@
 -- The mask of the groups that are lost.
-use Rattle.std.proofs.Common.{◌≡◌, ◌≤◌, ◌<◌, ◌^◌, ℕ, zero, suc, ◌+◌, ◌*◌, ◌-◌, ◌/◌, ◌%◌, Bool, true, false, List, [], ◌∷◌, Option, Some, None, All, length, drop, get_or, refl, sym, ◌∙◌, ap, arith}
+use Rattle.std.proofs.Common.{◌≡◌, ◌≤◌, ◌<◌, ◌^◌, ℕ, zero, suc, ◌+◌, ◌*◌, ◌-◌, ◌/◌, ◌%◌, Bool, true, false, List, [], ◌∷◌, Option, Some, None, All, length, drop, get_or, is_none, ◌&&◌, refl, sym, ◌∙◌, ap, arith}
 use Rattle.std.proofs.Math.Nat.{div-div-eq-div-mul, div-one, pow-suc, two-pow-succ}
 use Rattle.std.proofs.Math.Seq.{drop-cons}
+use Rattle.std.specs.List.{list_all}
 use Rattle.dp_plant.specs.declared.frames.Frame.{Frame}
 use Rattle.dp_plant.specs.declared.frames.Slot.{Slot}
 use Rattle.dp_machine.specs.declared.sensed.Sensed.{Sensed}
@@ -69,3 +70,21 @@ one_group mask (suc g) lost bit slots d len some few low is small e =
     let twice = ap (λ n. 2 ^ n) wide ∙ two-pow-succ (8 - suc g) in
     let bit_is : bit ≡ lost_bit (mask / 2 ^ g % 2) (get_or slots g d).last = e ∙ ap (λ k. lost_bit (mask / 2 ^ k % 2) (get_or slots k d).last) back in
     rw back (omega (arith, low, small, twice), ap (λ n. 2 * lost + n) bit_is ∙ one_bit mask g lost slots d (omega (arith, few, len)) is)
+
+-- where no group is heard of, each stays as it was
+pub silent_keeps : (mask : ℕ) (slots : List (Slot Bool)) → list_all (λ s. is_none s.last) slots ≡ true → mask < 2 ^ length slots → mask ≡ lost_next mask slots
+silent_keeps mask [] silent low = omega (arith, low)
+silent_keeps mask (s ∷ ss) silent low =
+    let both = and_both (is_none s.last) (list_all (λ k. is_none k.last) ss) silent in
+    let none : lost_bit (mask % 2) s.last ≡ mask % 2 = ap (λ o. lost_bit (mask % 2) o) (none_is s.last both.0) in
+    let rest = silent_keeps (mask / 2) ss both.1 (omega (arith, low, two-pow-succ (length ss))) in
+    omega (arith, none, rest)
+  where
+    and_both : (a b : Bool) → (a && b) ≡ true → (a ≡ true) × (b ≡ true)
+    and_both true true e = (refl, refl)
+    and_both true false e = cc
+    and_both false b e = cc
+
+    none_is : (o : Option Bool) → is_none o ≡ true → o ≡ None
+    none_is None e = refl
+    none_is (Some b) e = cc

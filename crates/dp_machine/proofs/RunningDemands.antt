@@ -1,5 +1,5 @@
 -- A ring of demands and its sums, when a demand comes in.
-use Rattle.std.proofs.Common.{◌≡◌, ◌≤◌, ◌<◌, ℕ, zero, suc, ◌+◌, ◌-◌, ◌*◌, ◌^◌, List, [], ◌∷◌, ◌++◌, All, length, map, drop, Some, None, Option, refl, sym, ap, subst, ◌∙◌, arith, ℤ, pos, ◌+ℤ◌, ◌-ℤ◌, unsigned_abs}
+use Rattle.std.proofs.Common.{◌≡◌, ◌≤◌, ◌<◌, ℕ, suc, ◌-◌, ◌*◌, ◌^◌, List, [], ◌∷◌, ◌++◌, All, length, drop, None, Option, refl, sym, ap, subst, ◌∙◌, arith, ℤ, pos, ◌+ℤ◌, ◌-ℤ◌, unsigned_abs}
 use Rattle.std.specs.Prelude.{if◌then◌else◌, nat_lt, slice_get, IfSome, true, false, Bool}
 use Rattle.std.proofs.lemmas.Int.{ints}
 use Rattle.std.proofs.lemmas.Bool.Decides.{nat_tests}
@@ -8,7 +8,6 @@ use Rattle.std.proofs.lemmas.List.Elements.{All-append, All-cons, All-drop, All-
 use Rattle.circular_buffer.specs.Buffer.{Buffer, buffer, keep_last}
 use Rattle.dp_plant.specs.Vectors.{entry}
 use Rattle.dp_alloc.specs.Ranges.{IsDemandWithin}
-use Rattle.dp_consequence.specs.Demands.{sum_of}
 use Rattle.dp_machine.specs.declared.demands.DemandSums.{DemandSums}
 use Rattle.dp_machine.specs.KeptDemands.{AreSummed, part_of, total_on, totals_of}
 

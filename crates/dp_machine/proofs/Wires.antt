@@ -1,10 +1,12 @@
 -- The bits of the wires with damage.
-use Rattle.std.proofs.Common.{◌≡◌, ◌<◌, ◌≤◌, ◌^◌, ℕ, zero, suc, ◌+◌, ◌-◌, ◌*◌, Bool, cond, List, ◌++◌, length, map, drop, get_or, sym, ◌∙◌, ap, arith}
+use Rattle.std.proofs.Common.{◌≡◌, ◌<◌, ◌≤◌, ◌^◌, ℕ, zero, suc, ◌+◌, ◌-◌, ◌*◌, Bool, true, false, not, ◌&&◌, cond, List, [], ◌∷◌, ◌++◌, length, map, drop, get_or, refl, sym, ◌∙◌, ap, arith}
 use Rattle.std.proofs.Math.Nat.{pow-le-pow_right, two-pow-succ}
 use Rattle.std.proofs.Math.Seq.{drop-cons}
+use Rattle.std.proofs.lemmas.List.{append-nil}
+use Rattle.dp_plant.specs.declared.frames.Frame.{Frame}
 use Rattle.dp_plant.specs.declared.frames.Slot.{Slot}
 use Rattle.dp_fixed.specs.{bits_of}
-use Rattle.dp_machine.specs.Alarms.{is_damaged}
+use Rattle.dp_machine.specs.Alarms.{are_sound_slots, damaged_in, is_damaged}
 
 module _ {T : Type 0} where
   -- what comes before is one bit more
@@ -36,3 +38,39 @@ module _ {T : Type 0} where
       let back : suc k - 1 ≡ k = omega arith in
       let bit_is : bit ≡ cond (is_damaged (get_or slots k d)) 1 0 = e ∙ ap (λ i. cond (is_damaged (get_or slots i d)) 1 0) back in
       rw back (ap (λ n. 2 * bits + n) bit_is ∙ one_wire k bits slots bs d (omega (arith, few)) is)
+
+unset : (b : Bool) (n : ℕ) → b ≡ false → n ≡ cond b 1 0 → n ≡ 0
+unset true n e is = cc
+unset false n e is = is
+
+both_true : (a b : Bool) → (a && b) ≡ true → (a ≡ true) × (b ≡ true)
+both_true true true e = (refl, refl)
+both_true true false e = cc
+both_true false b e = cc
+
+module _ {T : Type 0} where
+  -- wires without damage have no bit set
+  pub sound_before : (slots : List (Slot T)) (bs : List Bool) → are_sound_slots slots ≡ true → bits_of bs ≡ 0 → bits_of (map is_damaged slots ++ bs) ≡ 0
+  sound_before [] bs sound none = none
+  sound_before (s ∷ ss) bs sound none =
+      let both = both_true (not (is_damaged s)) (are_sound_slots ss) sound in
+      let rest = sound_before ss bs both.1 none in
+      let bit : is_damaged s ≡ false = not_true (is_damaged s) both.0 in
+      let n : ℕ = cond (is_damaged s) 1 0 in
+      let first = unset (is_damaged s) n bit refl in
+      omega (arith, rest, first)
+    where
+      not_true : (b : Bool) → not b ≡ true → b ≡ false
+      not_true true e = cc
+      not_true false e = refl
+
+-- without damage on any wire of a frame no bit is set
+pub sound_frame : (f : Frame) → (are_sound_slots f.pos && (are_sound_slots f.gyro && (are_sound_slots f.wind && are_sound_slots f.group))) ≡ true → 0 ≡ damaged_in f
+unfolding damaged_in
+sound_frame f sound =
+    let first = both_true _ _ sound in
+    let second = both_true _ _ first.1 in
+    let third = both_true _ _ second.1 in
+    let group = sound_before f.group [] third.1 refl in
+    let alone = ap bits_of (sym (append-nil (map is_damaged f.group))) ∙ group in
+    sym (sound_before f.pos _ first.0 (sound_before f.gyro _ second.0 (sound_before f.wind _ third.0 alone)))

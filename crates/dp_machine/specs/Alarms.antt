@@ -1,5 +1,6 @@
 -- What a cycle warns of.
-use Rattle.std.specs.Prelude.{ℕ, Bool, nat_lt, ◌++◌, map}
+use Rattle.std.specs.Prelude.{ℕ, Bool, List, not, nat_lt, ◌++◌, map}
+use Rattle.std.specs.List.{list_all}
 use Rattle.dp_fixed.specs.{bits_of}
 use Rattle.dp_plant.specs.declared.alarms.Cause.{Cause}
 use Rattle.dp_plant.specs.declared.alarms.Cause.TheVariants as cause
@@ -19,6 +20,10 @@ cause_of (Usable at weight) = cause.Good
 
 abbrev pub is_damaged : {X : Type 0} → Slot X → Bool
 is_damaged s = nat_lt 0 s.damage
+
+-- no damaged line came on any of these wires
+abbrev pub are_sound_slots : {X : Type 0} → List (Slot X) → Bool
+are_sound_slots slots = list_all (λ s. not (is_damaged s)) slots
 
 -- the wires with damage, in the order of positions, gyros, wind sensors and groups
 unfoldable pub damaged_in : Frame → ℕ

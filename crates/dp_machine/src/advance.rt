@@ -5,7 +5,7 @@ ghost use Rattle.dp_plant.specs.{IsGustWithin, IsMeasuredPlace, IsPair, IsPush, 
 ghost use Rattle.dp_cert.specs.{IsInCertifiedSet};
 ghost use Rattle.dp_pid.specs.{IsWindPush};
 ghost use Rattle.dp_alloc.specs.{IsDemandWithin};
-ghost use Rattle.dp_machine.specs.{AreEstimates, IsAcceptedPlant, IsYawInRange, estimates_by};
+ghost use Rattle.dp_machine.specs.{IsAcceptedPlant, IsYawInRange, estimates_by};
 
 use crate::estimates::Estimates;
 use crate::sensed::Sensed;
@@ -14,53 +14,51 @@ use dp_cert::laws::{cycle_stays_inside, inside_is_narrow};
 use dp_observer::{plane, yaw};
 use dp_plant::{Gust, Place, PlaneState, Plant, YawState};
 
-/// The plane after the cycle: it stays in the certified set.
-pub(crate) fn plane_after(
+/// The plane moves by a cycle: it stays in the certified set.
+pub(crate) fn move_plane(
+    plane: &mut PlaneState,
     plant: &Plant,
     accepted: &Accepted,
-    plane: PlaneState,
     place: Option<Place>,
     demand: [i64; 3],
     wind: [i64; 3],
     pair: (i64, i64),
-) -> PlaneState
+)
     requires plant { IsSoundPlant plant.now }
     requires accepted { IsAcceptedPlant plant.now accepted.now }
-    requires plane { IsInCertifiedSet plant.now.cert plane }
+    requires plane { IsInCertifiedSet plant.now.cert plane.old }
     requires place { IfSome place IsMeasuredPlace }
     requires demand { IsDemandWithin demand }
     requires wind { IsWindPush wind }
     requires pair { IsPair pair }
-    ensures value { result ≡ plane_next plant.now.gains plane place (push_of demand wind) pair }
-    ensures inside { IsInCertifiedSet plant.now.cert result }
+    ensures value { plane.new
+        ≡ plane_next plant.now.gains plane.old place (push_of demand wind) pair }
+    ensures inside { IsInCertifiedSet plant.now.cert plane.new }
 {
     // laws: the next state is in the set too, so within the observer's range
     cycle_stays_inside(accepted);
     inside_is_narrow(accepted);
-    let mut next = plane;
-    plane::update(&mut next, &plant.gains, place, push_of(demand, wind), pair);
-    next
+    plane::update(plane, &plant.gains, place, push_of(demand, wind), pair);
 }
 
-/// Yaw after the cycle: it stays in its ranges.
-pub(crate) fn yaw_after(
+/// Yaw moves by a cycle: it stays in its ranges.
+pub(crate) fn move_yaw(
+    yaw: &mut YawState,
     plant: &Plant,
-    yaw: YawState,
     heading: Option<u32>,
     demand: [i64; 3],
     wind: [i64; 3],
-) -> YawState
+)
     requires plant { IsSoundPlant plant.now }
-    requires yaw { IsYawInRange yaw }
+    requires yaw { IsYawInRange yaw.old }
     requires heading { IfSome heading (λ a. a < 36000) }
     requires demand { IsDemandWithin demand }
     requires wind { IsWindPush wind }
-    ensures value { result ≡ yaw_next plant.now.yaw yaw heading (entry demand 2 +ℤ entry wind 2) }
-    ensures within { IsYawInRange result }
+    ensures value { yaw.new
+        ≡ yaw_next plant.now.yaw yaw.old heading (entry demand 2 +ℤ entry wind 2) }
+    ensures within { IsYawInRange yaw.new }
 {
-    let mut next = yaw;
-    yaw::update(&mut next, &plant.yaw, heading, turning_push(demand, wind));
-    next
+    yaw::update(yaw, &plant.yaw, heading, turning_push(demand, wind));
 }
 
 /// What pushes in surge and sway: the demand and the wind together.
@@ -101,32 +99,21 @@ fn turned(demand: i64, wind: i64) -> i64
     demand + wind
 }
 
-/// The estimates after the cycle, by what is sensed and the next states of plane and yaw.
-pub(crate) fn estimates_after(
-    plant: &Plant,
-    now: &Estimates,
-    sensed: Sensed,
-    plane: PlaneState,
-    yaw: YawState,
-) -> Estimates
-    requires now { AreEstimates plant.now now.now }
-    requires count { now.now.count < 2 ^ 20 }
+/// The estimates of the next cycle beside plane and yaw, by what is sensed.
+pub(crate) fn count_on(now: &mut Estimates, sensed: Sensed)
+    requires count { now.old.count < 2 ^ 20 }
     requires heading { IfSome sensed.heading (λ a. a < 36000) }
     requires gust { IfSome sensed.gust IsGustWithin }
-    requires lost { sensed.lost < 2 ^ plant.now.groups }
-    requires plane { IsInCertifiedSet plant.now.cert plane }
-    requires yaw { IsYawInRange yaw }
-    ensures value { result ≡ estimates_by now.now sensed plane yaw }
-    ensures within { AreEstimates plant.now result }
+    requires last_heading { now.old.heading < 36000 }
+    requires last_wind { now.old.wind < 36000 }
+    ensures value { now.new ≡ estimates_by now.old sensed now.old.plane now.old.yaw }
+    ensures heading { now.new.heading < 36000 }
+    ensures wind { now.new.wind < 36000 }
 {
-    Estimates {
-        count: now.count + 1,
-        plane,
-        yaw,
-        heading: sensed.heading.unwrap_or(now.heading),
-        wind: angle_of(sensed.gust, now.wind),
-        lost: sensed.lost,
-    }
+    now.count += 1;
+    now.heading = sensed.heading.unwrap_or(now.heading);
+    now.wind = angle_of(sensed.gust, now.wind);
+    now.lost = sensed.lost;
 }
 
 /// The angle of the wind, or what it was where none is known.

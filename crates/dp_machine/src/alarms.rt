@@ -1,7 +1,7 @@
 //! What a cycle warns of.
-ghost use Rattle.std.specs.Prelude.{◌≡◌, ◌≤◌, ◌<◌, ◌^◌, ◌+◌, ℕ, Bool, List, ◌++◌, length, map, if◌then◌else◌};
+ghost use Rattle.std.specs.Prelude.{◌≡◌, ◌≤◌, ◌<◌, ◌^◌, ◌+◌, ℕ, Bool, List, ◌++◌, ◌&&◌, length, map, if◌then◌else◌};
 ghost use Rattle.dp_fixed.specs.{bits_of};
-ghost use Rattle.dp_machine.specs.Alarms.{cause_of, damaged_in, is_damaged};
+ghost use Rattle.dp_machine.specs.Alarms.{are_sound_slots, cause_of, damaged_in, is_damaged};
 ghost use Rattle.dp_machine.specs.Step.{alarms_by};
 
 use crate::sensed::Sensed;
@@ -57,8 +57,29 @@ fn cause_of(verdict: &Verdict) -> Cause
 }
 
 /// The wires on which damaged lines came, a bit each, in the order of positions, gyros, wind sensors and groups.
-#[tactic(auto, unfolding(crate::specs::Alarms::damaged_in))]
 fn damaged_in(f: &Frame) -> u32
+    ensures { result ≡ damaged_in f.now }
+{
+    if is_sound(f) { 0 } else { damaged_wires(f) }
+}
+
+/// No damaged line came, as in most cycles.
+fn is_sound(f: &Frame) -> bool
+    ensures { result ≡ (are_sound_slots f.now.pos && (are_sound_slots f.now.gyro
+        && (are_sound_slots f.now.wind && are_sound_slots f.now.group))) }
+{
+    are_sound(&f.pos) && (are_sound(&f.gyro) && (are_sound(&f.wind) && are_sound(&f.group)))
+}
+
+fn are_sound<T>(slots: &[Slot<T>]) -> bool
+    ensures { result ≡ are_sound_slots slots.now }
+{
+    slots.iter().all(|slot| !(0 < slot.damage))
+}
+
+/// The bits, wire by wire.
+#[tactic(auto, unfolding(crate::specs::Alarms::damaged_in))]
+fn damaged_wires(f: &Frame) -> u32
     ensures { result ≡ damaged_in f.now }
 {
     let group = damaged_before(&f.group, 0);

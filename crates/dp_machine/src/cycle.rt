@@ -8,7 +8,7 @@ ghost use Rattle.dp_machine.specs.Accepted.{IsAcceptedPlant};
 ghost use Rattle.dp_machine.specs.Parts.{AreEstimates, estimates_by, limited_cycle, plane_cycle, yaw_cycle};
 ghost use Rattle.dp_machine.specs.Step.{limited_by, plane_by, push_by, whole_demand, yaw_by};
 
-use crate::advance::{estimates_after, plane_after, yaw_after};
+use crate::advance::{count_on, move_plane, move_yaw};
 use crate::estimates::Estimates;
 use crate::sensed::Sensed;
 use dp_alloc::Cases;
@@ -17,22 +17,22 @@ use dp_cert::laws::inside_is_narrow;
 use dp_pid::{Asked, issue, wind_push};
 use dp_plant::{Gust, Place, Plant, Setpoint};
 
-/// What a cycle demands of surge, sway and yaw, which of them its box limits, and the estimates after it.
+/// What a cycle demands of surge, sway and yaw, and which of them its box limits.
 #[derive(Clone, Copy, Debug, PartialEq, Eq)]
 pub(crate) struct Cycle {
     pub demand: [i64; 3],
     pub limited: [bool; 3],
-    pub next: Estimates,
 }
 
 impl Cycle {
-    /// The cycle at a setpoint, by what is sensed, the sine pair of the heading, and the measured place.
+    /// The cycle at a setpoint, by what is sensed, the sine pair of the heading, and the measured place. It brings the estimates to the
+    /// next cycle, where they lie.
     pub(crate) fn of(
         plant: &Plant,
         accepted: &Accepted,
         cases: &Cases,
         at: &Setpoint,
-        now: &Estimates,
+        now: &mut Estimates,
         sensed: Sensed,
         pair: (i64, i64),
         place: Option<Place>,
@@ -41,35 +41,32 @@ impl Cycle {
         requires accepted { IsAcceptedPlant plant.now accepted.now }
         requires cases { cases.now ≡ cases_of plant.now }
         requires setpoint { IsSetpointWithin at.now }
-        requires now { AreEstimates plant.now now.now }
-        requires count { now.now.count < 2 ^ 20 }
+        requires now { AreEstimates plant.now now.old }
+        requires count { now.old.count < 2 ^ 20 }
         requires heading { IfSome sensed.heading (λ a. a < 36000) }
         requires gust { IfSome sensed.gust IsGustWithin }
         requires lost { sensed.lost < 2 ^ plant.now.groups }
         requires pair { IsPair pair }
         requires place { IfSome place IsMeasuredPlace }
         ensures demand { result.demand ≡ whole_demand
-            (plane_cycle plant.now at.now now.now sensed pair place)
-            (yaw_cycle plant.now at.now now.now sensed) }
-        ensures limited { result.limited ≡ limited_cycle plant.now at.now now.now sensed pair }
-        ensures next { result.next ≡ estimates_by now.now sensed
-            (plane_cycle plant.now at.now now.now sensed pair place).next
-            (yaw_cycle plant.now at.now now.now sensed).next }
+            (plane_cycle plant.now at.now now.old sensed pair place)
+            (yaw_cycle plant.now at.now now.old sensed) }
+        ensures limited { result.limited ≡ limited_cycle plant.now at.now now.old sensed pair }
+        ensures next { now.new ≡ estimates_by now.old sensed
+            (plane_cycle plant.now at.now now.old sensed pair place).next
+            (yaw_cycle plant.now at.now now.old sensed).next }
         ensures in_box { IsInBox (box_of (case_of plant.now sensed.lost)) result.demand }
         ensures whole { IsDemandWithin result.demand }
-        ensures within { AreEstimates plant.now result.next }
+        ensures within { AreEstimates plant.now now.new }
     {
         // a law: the plane is within the control law's range
         inside_is_narrow(accepted);
         let wind = push_by(plant, sensed.gust);
         let Asked { a: demand, limited } = asked_of(plant, cases, at, now, sensed.lost, pair, wind);
-        let plane = plane_after(plant, accepted, now.plane, place, demand, wind, pair);
-        let yaw = yaw_after(plant, now.yaw, sensed.heading, demand, wind);
-        Cycle {
-            demand,
-            limited,
-            next: estimates_after(plant, now, sensed, plane, yaw),
-        }
+        move_plane(&mut now.plane, plant, accepted, place, demand, wind, pair);
+        move_yaw(&mut now.yaw, plant, sensed.heading, demand, wind);
+        count_on(now, sensed);
+        Cycle { demand, limited }
     }
 }
 

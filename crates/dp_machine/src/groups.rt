@@ -1,11 +1,30 @@
 //! The groups of thrusters that are lost.
-ghost use Rattle.std.specs.Prelude.{◌≡◌, ◌≤◌, ◌<◌, ◌^◌, ◌+◌, ◌*◌};
+ghost use Rattle.std.specs.Prelude.{◌≡◌, ◌≤◌, ◌<◌, ◌^◌, ◌+◌, ◌*◌, is_none};
+ghost use Rattle.std.specs.List.{list_all};
 ghost use Rattle.dp_machine.specs.Groups.{lost_bit, lost_next};
 
 use dp_plant::Slot;
 
 /// The mask of the groups that are lost after a frame, by that before it: a group stays as it was until it is heard of again.
 pub(crate) fn lost_next(mask: u8, group: &[Slot<bool>; 8]) -> u8
+    ensures { result ≡ lost_next mask group.now }
+{
+    if is_silent(group) {
+        mask
+    } else {
+        heard_next(mask, group)
+    }
+}
+
+/// No group is heard of, as in most cycles.
+fn is_silent(group: &[Slot<bool>; 8]) -> bool
+    ensures { result ≡ list_all (λ s. is_none s.last) group.now }
+{
+    group.iter().all(|slot| slot.last.is_none())
+}
+
+/// The mask, group by group.
+fn heard_next(mask: u8, group: &[Slot<bool>; 8]) -> u8
     ensures { result ≡ lost_next mask group.now }
 {
     let mut lost = 0;

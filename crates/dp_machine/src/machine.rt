@@ -14,6 +14,7 @@ use crate::estimates::Estimates;
 use crate::references::{References, measured_by};
 use crate::sensed::Sensed;
 use crate::{Issue, State, demands};
+use arrayvec::ArrayVec;
 use dp_alloc::Cases;
 use dp_cert::Accepted;
 use dp_cert::laws::{inside_is_narrow, rest_is_inside};
@@ -110,12 +111,13 @@ impl Machine {
         self.references.take(self.estimates.count, &f.pos);
         let verdicts = self.references.verdicts();
         let place = measured_by(&self.plant, pair, &verdicts);
+        let count = self.estimates.count;
         let cycle = Cycle::of(
             &self.plant,
             &self.accepted,
             &self.cases,
             at,
-            &self.estimates,
+            &mut self.estimates,
             sensed,
             pair,
             place,
@@ -123,9 +125,9 @@ impl Machine {
         let demand = cycle.demand;
         demands::add(&mut self.demands, demand);
         let mean = demands::mean(&self.demands);
-        let issue = Issue {
-            cycle: self.estimates.count,
-            forces: self.cases.forces(sensed.lost, demand),
+        let mut issue = Issue {
+            cycle: count,
+            forces: ArrayVec::new(),
             demand,
             alarms: alarms_of(
                 &self.plant,
@@ -137,8 +139,8 @@ impl Machine {
                 mean,
             ),
         };
+        self.cases.share_out(sensed.lost, demand, &mut issue.forces);
         self.steps = self.steps.saturating_add(1);
-        self.estimates = cycle.next;
         issue
     }
 

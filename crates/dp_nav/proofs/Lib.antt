@@ -1,3 +1,4 @@
+pub mod AngleCuts
 pub mod DigitBounds
 pub mod FirstFields
 pub mod DigitCuts

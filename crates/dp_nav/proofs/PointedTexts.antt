@@ -25,7 +25,7 @@ point_at (c ∷ cs) rest all none =
     let b = both (is_ascii_digit c) (list_all is_ascii_digit cs) all in
     one_more (not (is_point c)) (position_or_len is_point (cs ++ rest)) (length cs) (no_point c b.0) (point_at cs rest b.1 none) ∙ omega arith
 
-after_point : (digits more : List ℕ) → drop (length digits + 1) (digits ++ 46 ∷ more) ≡ more
+pub after_point : (digits more : List ℕ) → drop (length digits + 1) (digits ++ 46 ∷ more) ≡ more
 after_point digits more =
     ap (drop (length digits + 1)) (sym (append_assoc digits (46 ∷ []) more))
     ∙ drop_at (digits ++ 46 ∷ []) more (length digits + 1) (length-append digits (46 ∷ []))

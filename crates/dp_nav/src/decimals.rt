@@ -7,7 +7,7 @@ ghost use Rattle.dp_nav.specs.Decimals as Decimals;
 ghost use Rattle.dp_nav.specs.Decimals.{is_decimal};
 
 /// The most digits of a decimal.
-const MOST_DIGITS: usize = 20;
+pub(crate) const MOST_DIGITS: usize = 20;
 
 /// The most digits of a number.
 const NUMBER_DIGITS: usize = 18;
@@ -106,7 +106,8 @@ fn digits_len(text: &[u8]) -> usize
     text.iter().take_while(|byte| byte.is_ascii_digit()).count()
 }
 
-fn all_digits(text: &[u8]) -> bool
+/// Whether all bytes are digits.
+pub(crate) fn all_digits(text: &[u8]) -> bool
     ensures { result ≡ list_all is_ascii_digit text.now }
 {
     text.iter().all(|byte| byte.is_ascii_digit())
@@ -114,7 +115,7 @@ fn all_digits(text: &[u8]) -> bool
 
 /// The first `k` decimals as a whole number of 10^-k.
 #[tactic(auto, unfolding(crate::specs::Decimals::kept))]
-pub(crate) fn kept(decimals: &[u8], k: usize) -> u64
+fn kept(decimals: &[u8], k: usize) -> u64
     requires { k ≤ 9 }
     ensures value { result ≡ Decimals.kept k decimals.now }
     ensures bound { result < 10 ^ k }
@@ -124,7 +125,7 @@ pub(crate) fn kept(decimals: &[u8], k: usize) -> u64
 }
 
 /// The first `k` bytes, or all where there are fewer.
-fn prefix(text: &[u8], k: usize) -> &[u8]
+pub(crate) fn prefix(text: &[u8], k: usize) -> &[u8]
     ensures value { result.now ≡ take k text.now }
     ensures few { length result.now ≤ k }
 {
@@ -132,7 +133,7 @@ fn prefix(text: &[u8], k: usize) -> &[u8]
 }
 
 /// The number of up to 18 digits, 0 where there are none.
-pub(crate) fn number(digits: &[u8]) -> u64
+fn number(digits: &[u8]) -> u64
     requires { length digits.now ≤ 18 }
     ensures value { result ≡ Decimals.number digits.now }
     ensures bound { result < 10 ^ length digits.now }
@@ -141,7 +142,7 @@ pub(crate) fn number(digits: &[u8]) -> u64
 }
 
 /// A power of ten.
-fn power(k: usize) -> u64
+pub(crate) fn power(k: usize) -> u64
     requires { k ≤ 9 }
     ensures { result ≡ 10 ^ k }
 {

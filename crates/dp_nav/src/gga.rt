@@ -28,12 +28,9 @@ ghost use Rattle.dp_text.specs.{texts_of};
 ghost use Rattle.dp_nav.specs.Gga as Gga;
 ghost use Rattle.dp_nav.specs.ReadingRanges.{IsReadingWithin};
 
-use crate::decimals::{Decimal, kept, number};
+use crate::angles::angle_parts;
 use crate::fields::field;
 use crate::{Reading, Skip};
-
-/// Decimals of a minute that are kept.
-const DECIMALS: usize = 7;
 
 /// One whole minute, in 10^-7 minute.
 const MINUTE: u64 = 10_000_000;
@@ -105,14 +102,9 @@ impl Axis {
         ensures value { result ≡ Gga.angle_of self text.now }
         ensures bound { IfSome result (λ angle. angle ≤ Gga.most_degrees self * 600000000) }
     {
-        let decimal = Decimal::read(text)?;
-        let digits = self.degree_digits();
-        if decimal.whole.len() != digits + 2 {
-            return None;
-        }
-        let degrees = number(&decimal.whole[..digits]);
-        let minutes = number(&decimal.whole[digits..]);
-        let angle = (degrees * 60 + minutes) * MINUTE + kept(decimal.decimals, DECIMALS);
+        let parts = angle_parts(text, self.degree_digits())?;
+        let minutes = parts.minutes;
+        let angle = (parts.degrees * 60 + minutes) * MINUTE + parts.rest;
         if minutes < 60 && angle <= self.most_degrees() * DEGREE {
             Some(angle)
         } else {

@@ -35,6 +35,7 @@
 //! Write its fields into a file of its own, as `gga.rt` with `specs/Gga`, and give it a case in [`sensed`] and in `specs/Sensed`.
 #![tactic(auto)]
 
+mod angles;
 mod decimals;
 mod fields;
 mod gga;

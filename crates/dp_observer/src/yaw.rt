@@ -12,6 +12,9 @@ use dp_plant::{YawGains, YawState};
 /// 360 degrees in nanodegrees.
 const TURN: i128 = 360_000_000_000;
 
+/// 180 degrees in nanodegrees.
+const HALF_TURN: i128 = 180_000_000_000;
+
 /// Takes one cycle: the measured heading in hundredths of a degree, if there is one, and what pushes in yaw, the demand and the wind
 /// together, in nanodegrees per cycle squared, positive clockwise. Each number of the next state has to lie within ±2^56.
 pub fn update(x: &mut YawState, gains: &YawGains, h: Option<u32>, push: i64)
@@ -52,7 +55,21 @@ fn offset(x: &YawState, h: u32) -> i128
     ensures value { result ≡ wrap_of (pos (h * 10 ^ 7) -ℤ x.now.psi) turn }
     ensures bound { unsigned_abs result ≤ 2 ^ 38 }
 {
-    wrap(difference(nanodegrees(h), x.psi as i128), TURN)
+    nearest(difference(nanodegrees(h), x.psi as i128))
+}
+
+/// An angle, the nearer way round. Most offsets are less than half a turn as they stand.
+#[tactic(auto, using(crate::proofs::NearTurns::wrap_near))]
+fn nearest(angle: i128) -> i128
+    requires { unsigned_abs angle ≤ 2 ^ 58 }
+    ensures value { result ≡ wrap_of angle turn }
+    ensures bound { unsigned_abs result ≤ 2 ^ 38 }
+{
+    if -HALF_TURN <= angle && angle < HALF_TURN {
+        angle
+    } else {
+        wrap(angle, TURN)
+    }
 }
 
 /// A heading in nanodegrees.
@@ -64,11 +81,16 @@ fn nanodegrees(h: u32) -> i128
     h as i128 * 10_000_000
 }
 
-/// A heading, brought to the turn from 0 on.
+/// A heading, brought to the turn from 0 on, where most are as they stand.
+#[tactic(auto, using(crate::proofs::NearTurns::rem_small))]
 fn turned(psi: i128) -> i128
     ensures { result ≡ int_rem_euclid psi turn }
 {
-    psi.rem_euclid(TURN)
+    if 0 <= psi && psi < TURN {
+        psi
+    } else {
+        psi.rem_euclid(TURN)
+    }
 }
 
 /// What pushes, times the scale.

@@ -67,3 +67,9 @@ pub record IsAlongWithin (a : Along) : Type 0 where
   pub error : unsigned_abs a.error ≤ 2 ^ 88
   pub velocity : unsigned_abs a.velocity ≤ 2 ^ 88
   pub bias : unsigned_abs a.bias ≤ 2 ^ 88
+
+-- error, velocity and bias in yaw
+pub record IsTurnWithin (a : Along) : Type 0 where
+  pub error : unsigned_abs a.error ≤ 2 ^ 38
+  pub velocity : unsigned_abs a.velocity ≤ 2 ^ 56
+  pub bias : unsigned_abs a.bias ≤ 2 ^ 56

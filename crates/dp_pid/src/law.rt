@@ -2,7 +2,7 @@
 ghost use Rattle.std.specs.Prelude.{◌≡◌, ◌≤◌, ◌<◌, ◌^◌, [], ◌∷◌, unsigned_abs};
 ghost use Rattle.dp_plant.specs.{IsInBox, IsLawGains, IsPair, IsPlaneBox, IsPlaneSetpoint, IsPlaneWithin, IsYawBox, IsYawGains, IsYawSetpoint, IsYawWithin};
 ghost use Rattle.dp_pid.specs.Asked.{AreDemands, demands_of, limited_of};
-ghost use Rattle.dp_pid.specs.Axis.{IsAlongWithin, IsPlaneAnswer, IsYawAnswer, asked_of_plane, asked_of_yaw};
+ghost use Rattle.dp_pid.specs.Axis.{IsAlongWithin, IsPlaneAnswer, IsTurnWithin, IsYawAnswer, asked_of_plane, asked_of_yaw};
 ghost use Rattle.dp_pid.specs.Body.{plane_axis, yaw_axis};
 ghost use Rattle.dp_pid.specs.WindPush.{IsWindPush};
 
@@ -85,7 +85,7 @@ fn plane_axis(g: &Gains, b: &Box3, j: usize) -> Axis
 fn yaw_answer(y: &YawGains, b: &Box3, along: Along, wind: i64) -> Answer
     requires gains { IsYawGains y.now }
     requires limits { IsYawBox b.now }
-    requires along { IsAlongWithin along }
+    requires along { IsTurnWithin along }
     requires wind { unsigned_abs wind ≤ 2 ^ 31 }
     ensures { let axis = yaw_axis y.now b.now in
         IsYawAnswer axis (asked_of_yaw axis along wind) result }

@@ -1,5 +1,6 @@
 pub mod Adding
 pub mod Spreads
+pub mod Shares
 pub mod Reading
 pub mod Rings
 pub mod Windows

@@ -14,6 +14,16 @@ use Rattle.dp_reftest.specs.Totals.{AreSums, square_of, sums_of}
 use Rattle.dp_reftest.specs.Verdict.{spread_of, sum_of}
 use Rattle.dp_reftest.specs.Window.{AreNear}
 
+-- the difference of two squares is one product
+pub apart_squared : (a b l m r : ℤ) → l ≡ a -ℤ b → m ≡ a +ℤ b → r ≡ l *ℤ m → r ≡ a *ℤ a -ℤ b *ℤ b
+apart_squared a b l m r e f is =
+    is ∙ ap (λ (z : ℤ). z *ℤ m) e ∙ ap (λ (z : ℤ). (a -ℤ b) *ℤ z) f
+    ∙ ring (a ∷ (b ∷ [])) ((var 0 ⊕ minus (var 1)) ⊗ (var 0 ⊕ var 1)) (var 0 ⊗ var 0 ⊕ minus (var 1 ⊗ var 1)) tt
+
+pub places_squared : (p q : Place) (a b r : ℤ) → a ≡ p.north *ℤ p.north -ℤ q.north *ℤ q.north → b ≡ p.east *ℤ p.east -ℤ q.east *ℤ q.east → r ≡ a +ℤ b → r ≡ square_of p -ℤ square_of q
+unfolding square_of
+places_squared p q a b r e f is = omega (arith, ints, e, f, is)
+
 abbrev squares : List ℤ → ℤ
 squares xs = sum_of (map (λ x. x *ℤ x) xs)
 

@@ -1,5 +1,5 @@
 //! The verdict, read off the sums.
-ghost use Rattle.std.specs.Prelude.{◌≡◌, ℕ, List, ◌≤◌, ◌<◌, ◌^◌, ◌+◌, ◌-◌, ◌-ℤ◌, ◌*ℤ◌, ◌≤ℤ◌, ◌<ℤ◌, pos, unsigned_abs};
+ghost use Rattle.std.specs.Prelude.{◌≡◌, ℕ, List, ◌≤◌, ◌<◌, ◌^◌, ◌+◌, ◌-◌, ◌*◌, ◌/◌, ◌-ℤ◌, ◌*ℤ◌, ◌≤ℤ◌, ◌<ℤ◌, pos, unsigned_abs};
 ghost use Rattle.dp_fixed.specs.{IsFloor, floor_of};
 ghost use Rattle.dp_plant.specs.declared.place.Place.{Place};
 ghost use Rattle.dp_plant.specs.{AreRefLimits, IsVectorWithin};
@@ -21,15 +21,16 @@ impl Sums {
             → EndsIn newest xs → result ≡ verdict_of limits.now (kept_by last xs) now }
         ensures within { IsVectorWithin (2 ^ 43) newest → IsVerdictWithin result }
     {
-        self.judged(limits, newest, now - last)
+        self.judged(limits, &newest, now - last)
     }
 
-    fn judged(&self, limits: &RefLimits, newest: Place, age: u64) -> Verdict
+    /// The same for a newest place that is lent.
+    pub(crate) fn judged(&self, limits: &RefLimits, newest: &Place, age: u64) -> Verdict
         requires limits { AreRefLimits limits.now }
         requires few { self.now.n ≤ limits.now.window }
         requires sums { AreSums self.now }
-        ensures value { result ≡ verdict_by limits.now self.now newest age }
-        ensures within { IsVectorWithin (2 ^ 43) newest → IsVerdictWithin result }
+        ensures value { result ≡ verdict_by limits.now self.now newest.now age }
+        ensures within { IsVectorWithin (2 ^ 43) newest.now → IsVerdictWithin result }
     {
         if self.n == 0 {
             return Verdict::Silent;
@@ -42,13 +43,13 @@ impl Sums {
 
     /// The verdict on samples of which the newest isn't stale.
     #[tactic(auto, unfolding(crate::specs::Running::verdict_by_samples))]
-    fn by_samples(&self, limits: &RefLimits, newest: Place) -> Verdict
+    fn by_samples(&self, limits: &RefLimits, newest: &Place) -> Verdict
         requires limits { AreRefLimits limits.now }
         requires some { 0 < self.now.n }
         requires few { self.now.n ≤ limits.now.window }
         requires sums { AreSums self.now }
-        ensures value { result ≡ verdict_by_samples limits.now self.now newest }
-        ensures within { IsVectorWithin (2 ^ 43) newest → IsVerdictWithin result }
+        ensures value { result ≡ verdict_by_samples limits.now self.now newest.now }
+        ensures within { IsVectorWithin (2 ^ 43) newest.now → IsVerdictWithin result }
     {
         if self.is_frozen(limits.window) {
             return Verdict::Frozen;
@@ -76,7 +77,7 @@ impl Sums {
         requires sums { AreSums self.now }
         ensures { result ≡ variance_by self.now }
     {
-        floor_div(self.spread(), cells(self.n))
+        mean_spread(self.spread(), self.n)
     }
 
     /// Its square count times the variance, in nm².
@@ -118,6 +119,59 @@ fn total_squared(z: i128) -> i128
     part as i128 * part as i128
 }
 
+/// A spread over the square of a count, in mm², rounded down. Most are short.
+fn mean_spread(spread: i128, n: u8) -> i128
+    requires some { 0 < n }
+    requires few { n ≤ 32 }
+    ensures { result ≡ floor_of spread (square_millimetres n) }
+{
+    if 0 <= spread && spread < SHORT_SPREAD {
+        parted(shortened(spread), short_cells(n))
+    } else {
+        long_mean(spread, n)
+    }
+}
+
+fn parted(part: u64, cells: u64) -> i128
+    requires { 0 < cells }
+    ensures { result ≡ pos (part / cells) }
+{
+    (part / cells) as i128
+}
+
+/// What is below it is below 2^63 when it is parted by 2^12.
+const SHORT_SPREAD: i128 = 1 << 75;
+
+/// A spread over 2^12, rounded down.
+fn shortened(spread: i128) -> u64
+    requires low { pos 0 ≤ℤ spread }
+    requires high { spread <ℤ pos (2 ^ 75) }
+    ensures { IsFloor spread (pos 4096) (pos result) }
+{
+    floor_div(spread, 4096) as u64
+}
+
+/// The square of a count, times 10^12 over 2^12.
+fn short_cells(n: u8) -> u64
+    requires some { 0 < n }
+    requires few { n ≤ 32 }
+    ensures value { result ≡ n * n * 244140625 }
+    ensures some { 0 < result }
+{
+    n as u64 * n as u64 * 244_140_625
+}
+
+/// The same for any spread.
+#[cold]
+#[inline(never)]
+fn long_mean(spread: i128, n: u8) -> i128
+    requires some { 0 < n }
+    requires few { n ≤ 32 }
+    ensures { result ≡ floor_of spread (square_millimetres n) }
+{
+    floor_div(spread, cells(n))
+}
+
 /// The square of a count, times 10^12: by it nm² become mm².
 fn cells(n: u8) -> i128
     requires some { 0 < n }
@@ -130,17 +184,17 @@ fn cells(n: u8) -> i128
 
 /// The verdict by the variance, where all else is well.
 #[tactic(auto, unfolding(crate::specs::Running::verdict_by_variance))]
-fn weighed(noise: i128, newest: Place, variance: i128) -> Verdict
+fn weighed(noise: i128, newest: &Place, variance: i128) -> Verdict
     requires noise { noise ≤ℤ pos (10 ^ 12) }
     requires low { pos 0 ≤ℤ variance }
-    ensures value { result ≡ verdict_by_variance noise newest variance }
-    ensures within { IsVectorWithin (2 ^ 43) newest → IsVerdictWithin result }
+    ensures value { result ≡ verdict_by_variance noise newest.now variance }
+    ensures within { IsVectorWithin (2 ^ 43) newest.now → IsVerdictWithin result }
 {
     if noise < variance {
         return Verdict::Noisy { variance };
     }
     Verdict::Usable {
-        at: newest,
+        at: *newest,
         weight: weight(variance),
     }
 }
@@ -148,19 +202,32 @@ fn weighed(noise: i128, newest: Place, variance: i128) -> Verdict
 /// The weight of a reference: 2^20 over 1 more than its variance, rounded down, and at least 1.
 fn weight(variance: i128) -> u32
     requires low { pos 0 ≤ℤ variance }
-    requires high { variance ≤ℤ pos (10 ^ 12) }
     ensures value { result ≡ weight_of variance }
     ensures low { 1 ≤ result }
     ensures high { result ≤ 2 ^ 20 }
 {
-    most_over(1 + narrow(variance)).max(1) as u32
+    if variance < 1 << 20 {
+        most_over(1 + whole(variance))
+    } else {
+        1
+    }
+}
+
+fn whole(variance: i128) -> u32
+    requires low { pos 0 ≤ℤ variance }
+    requires high { variance <ℤ pos (2 ^ 20) }
+    ensures { pos result ≡ variance }
+{
+    variance as u32
 }
 
 /// 2^20 over a number, rounded down.
-fn most_over(d: i64) -> i64
-    requires { pos 0 <ℤ d }
-    ensures value { result ≡ floor_of (pos (2 ^ 20)) d }
-    ensures floor { IsFloor (pos (2 ^ 20)) d result }
+fn most_over(d: u32) -> u32
+    requires some { 0 < d }
+    requires few { d ≤ 2 ^ 20 }
+    ensures value { result ≡ 2 ^ 20 / d }
+    ensures low { 1 ≤ result }
+    ensures high { result ≤ 2 ^ 20 }
 {
-    (1i64 << 20).div_euclid(d)
+    (1u32 << 20) / d
 }

@@ -1,8 +1,9 @@
 //! The tests of one reference: its window in a ring, with its sums beside it.
-ghost use Rattle.std.specs.Prelude.{◌≡◌, ◌<◌, ◌≤◌, ◌+◌, ◌-◌, ◌^◌, [], ◌∷◌, ◌++◌, length, drop, IfOk, IfSome};
+ghost use Rattle.std.specs.Prelude.{◌≡◌, ◌<◌, ◌≤◌, ◌+◌, ◌-◌, ◌^◌, [], ◌∷◌, ◌++◌, length, IfOk, IfSome, Some};
 ghost use Rattle.circular_buffer.specs.Buffer.{buffer, keep_last};
 ghost use Rattle.dp_plant.specs.{AreRefLimits, IsVectorWithin};
-ghost use Rattle.dp_reftest.specs.{AreNear, IsKept, IsRunning, IsVerdictWithin, sums_of, tested_by, untested, verdict_of, window_next};
+ghost use Rattle.dp_reftest.specs.{AreNear, EndsIn, IsKept, IsRunning, IsVerdictWithin, is_jump, is_same, pair, sums_of, tested_by, untested, verdict_of, window_next};
+ghost use Rattle.dp_reftest.specs.Running.{first_of};
 
 use crate::{Kept, Sums};
 use arrayvec::ArrayVec;
@@ -19,6 +20,7 @@ pub struct RefTest {
     last: u64,
     ring: HeapCircularBuffer<Place>,
     sums: Sums,
+    newest: Place,
 }
 
 impl Model for RefTest {
@@ -48,6 +50,7 @@ impl RefTest {
             last: 0,
             ring,
             sums: NO_SUMS,
+            newest: ORIGIN,
         })
     }
 
@@ -65,7 +68,14 @@ impl RefTest {
         let Some(at) = reading else {
             return;
         };
-        push(&mut self.ring, &mut self.sums, at, self.limits.jump);
+        push(
+            &mut self.ring,
+            &mut self.sums,
+            self.newest,
+            at,
+            self.limits.jump,
+        );
+        self.newest = at;
         self.last = cycle;
     }
 
@@ -74,9 +84,9 @@ impl RefTest {
         ensures value { result ≡ verdict_of self.now.limits self.now.kept (self.now.next - 1) }
         ensures within { IsVerdictWithin result }
     {
-        let newest = self.ring.back().copied().unwrap_or(ORIGIN);
         let now = self.next.saturating_sub(1);
-        self.sums.verdict(&self.limits, newest, self.last, now)
+        self.sums
+            .judged(&self.limits, &self.newest, now - self.last)
     }
 
     /// The window.
@@ -104,6 +114,7 @@ impl RefTest {
             kept.list.as_slice(),
             self.limits.jump,
         );
+        self.newest = newest_in(&self.ring);
         self.last = kept.last;
         self.next = next;
     }
@@ -142,33 +153,102 @@ fn places_of(ring: &HeapCircularBuffer<Place>) -> ArrayVec<Place, 32>
     list
 }
 
-/// A sample comes in, and the oldest falls out where the ring is full.
-fn push(ring: &mut HeapCircularBuffer<Place>, sums: &mut Sums, at: Place, limit: i64)
+/// The newest place in the ring, or the origin where there is none.
+fn newest_in(ring: &HeapCircularBuffer<Place>) -> Place
+    requires near { AreNear ring.now.items }
+    ensures newest { EndsIn result ring.now.items }
+    ensures near { IsVectorWithin (2 ^ 43) result }
+{
+    ring.back().copied().unwrap_or(ORIGIN)
+}
+
+/// A sample comes in after the newest, and the oldest falls out where the ring is full.
+fn push(ring: &mut HeapCircularBuffer<Place>, sums: &mut Sums, newest: Place, at: Place, limit: i64)
     requires running { IsRunning limit ring.old sums.old }
+    requires newest { EndsIn newest ring.old.items }
+    requires newest_near { IsVectorWithin (2 ^ 43) newest }
     requires some { 0 < ring.old.capacity }
     requires near { IsVectorWithin (2 ^ 43) at }
     ensures items { ring.new
         ≡ buffer (keep_last ring.old.capacity (ring.old.items ++ at ∷ [])) ring.old.capacity }
     ensures running { IsRunning limit ring.new sums.new }
 {
-    make_room(ring, sums, limit);
-    enter(ring, sums, at, limit);
-}
-
-/// The oldest sample falls out.
-fn leave(ring: &mut HeapCircularBuffer<Place>, sums: &mut Sums, limit: i64)
-    requires running { IsRunning limit ring.old sums.old }
-    requires some { 0 < length ring.old.items }
-    ensures items { ring.new ≡ buffer (drop 1 ring.old.items) ring.old.capacity }
-    ensures running { IsRunning limit ring.new sums.new }
-{
-    if let Some(first) = ring.pop_front() {
-        let after = ring.front().copied();
-        sums.remove(first, after, limit);
+    if ring.is_full() {
+        replace(ring, sums, newest, at, limit);
+    } else {
+        enter(ring, sums, at, limit);
     }
 }
 
+/// A sample comes into a full ring, and the oldest falls out.
+fn replace(
+    ring: &mut HeapCircularBuffer<Place>,
+    sums: &mut Sums,
+    newest: Place,
+    at: Place,
+    limit: i64,
+)
+    requires running { IsRunning limit ring.old sums.old }
+    requires newest { EndsIn newest ring.old.items }
+    requires newest_near { IsVectorWithin (2 ^ 43) newest }
+    requires some { 0 < ring.old.capacity }
+    requires full { length ring.old.items ≡ ring.old.capacity }
+    requires near { IsVectorWithin (2 ^ 43) at }
+    ensures items { ring.new
+        ≡ buffer (keep_last ring.old.capacity (ring.old.items ++ at ∷ [])) ring.old.capacity }
+    ensures running { IsRunning limit ring.new sums.new }
+{
+    if let Some(oldest) = ring.push_back(at) {
+        sums.exchange(&at, &oldest);
+        sums.join(newest, at, limit);
+        part(ring, sums, oldest, limit);
+    }
+}
+
+/// The oldest place and the one after it, which is now the first in the ring, are neighbours no more.
+fn part(ring: &HeapCircularBuffer<Place>, sums: &mut Sums, oldest: Place, limit: i64)
+    requires jumps { pair (is_jump limit) (Some oldest) (first_of ring.now.items) ≤ sums.old.jumps }
+    requires same { pair is_same (Some oldest) (first_of ring.now.items) ≤ sums.old.same }
+    requires near { AreNear ring.now.items }
+    requires oldest { IsVectorWithin (2 ^ 43) oldest }
+    ensures n { sums.new.n ≡ sums.old.n }
+    ensures x { sums.new.x ≡ sums.old.x }
+    ensures y { sums.new.y ≡ sums.old.y }
+    ensures square { sums.new.square ≡ sums.old.square }
+    ensures jumps { sums.new.jumps
+        ≡ sums.old.jumps - pair (is_jump limit) (Some oldest) (first_of ring.now.items) }
+    ensures same { sums.new.same
+        ≡ sums.old.same - pair is_same (Some oldest) (first_of ring.now.items) }
+{
+    if sums.jumps == 0 && sums.same == 0 {
+        return;
+    }
+    part_neighbours(ring, sums, oldest, limit);
+}
+
+/// The same, where some neighbours in the window jump or are equal.
+#[cold]
+#[inline(never)]
+fn part_neighbours(ring: &HeapCircularBuffer<Place>, sums: &mut Sums, oldest: Place, limit: i64)
+    requires jumps { pair (is_jump limit) (Some oldest) (first_of ring.now.items) ≤ sums.old.jumps }
+    requires same { pair is_same (Some oldest) (first_of ring.now.items) ≤ sums.old.same }
+    requires near { AreNear ring.now.items }
+    requires oldest { IsVectorWithin (2 ^ 43) oldest }
+    ensures n { sums.new.n ≡ sums.old.n }
+    ensures x { sums.new.x ≡ sums.old.x }
+    ensures y { sums.new.y ≡ sums.old.y }
+    ensures square { sums.new.square ≡ sums.old.square }
+    ensures jumps { sums.new.jumps
+        ≡ sums.old.jumps - pair (is_jump limit) (Some oldest) (first_of ring.now.items) }
+    ensures same { sums.new.same
+        ≡ sums.old.same - pair is_same (Some oldest) (first_of ring.now.items) }
+{
+    let second = ring.front().copied();
+    sums.part(oldest, second, limit);
+}
+
 /// A sample comes in.
+#[inline(never)]
 fn enter(ring: &mut HeapCircularBuffer<Place>, sums: &mut Sums, at: Place, limit: i64)
     requires running { IsRunning limit ring.old sums.old }
     requires room { length ring.old.items < ring.old.capacity }
@@ -179,20 +259,6 @@ fn enter(ring: &mut HeapCircularBuffer<Place>, sums: &mut Sums, at: Place, limit
     let before = ring.back().copied();
     sums.add(before, at, limit);
     let _oldest = ring.push_back(at);
-}
-
-/// One sample fits now.
-fn make_room(ring: &mut HeapCircularBuffer<Place>, sums: &mut Sums, limit: i64)
-    requires running { IsRunning limit ring.old sums.old }
-    requires some { 0 < ring.old.capacity }
-    ensures items { ring.new
-        ≡ buffer (keep_last (ring.old.capacity - 1) ring.old.items) ring.old.capacity }
-    ensures running { IsRunning limit ring.new sums.new }
-    ensures room { length ring.new.items < ring.new.capacity }
-{
-    if ring.is_full() {
-        leave(ring, sums, limit);
-    }
 }
 
 /// All these places come in, one after another, into an empty ring.

@@ -42,29 +42,117 @@ impl Sums {
         self.same += same_in(before, Some(p));
     }
 
-    /// Those of a list with one place less, which stood before this one.
-    pub(crate) fn remove(&mut self, p: Place, after: Option<Place>, limit: i64)
-        requires sums { AreSums self.old }
-        requires few { self.old.n ≤ 32 }
-        requires some { 0 < self.old.n }
+    /// Those of a list into which one place came and from which another fell out, but for the counts of neighbours.
+    pub(crate) fn exchange(&mut self, p: &Place, out: &Place)
+        requires x { unsigned_abs self.old.x ≤ 2 ^ 48 }
+        requires y { unsigned_abs self.old.y ≤ 2 ^ 48 }
+        requires square { unsigned_abs self.old.square ≤ 2 ^ 92 }
+        requires near { IsVectorWithin (2 ^ 43) p.now }
+        requires out { IsVectorWithin (2 ^ 43) out.now }
+        ensures n { self.new.n ≡ self.old.n }
+        ensures x { self.new.x ≡ self.old.x +ℤ (p.now.north -ℤ out.now.north) }
+        ensures y { self.new.y ≡ self.old.y +ℤ (p.now.east -ℤ out.now.east) }
+        ensures square { self.new.square
+            ≡ self.old.square +ℤ (square_of p.now -ℤ square_of out.now) }
+        ensures jumps { self.new.jumps ≡ self.old.jumps }
+        ensures same { self.new.same ≡ self.old.same }
+    {
+        self.x = exchanged(self.x, p.north, out.north);
+        self.y = exchanged(self.y, p.east, out.east);
+        self.square = sum(self.square, squares_apart(p, out));
+    }
+
+    /// Those with one pair of neighbours more.
+    pub(crate) fn join(&mut self, before: Place, p: Place, limit: i64)
+        requires jumps { self.old.jumps ≤ 32 }
+        requires same { self.old.same ≤ 32 }
+        requires before { IsVectorWithin (2 ^ 43) before }
+        requires near { IsVectorWithin (2 ^ 43) p }
+        ensures n { self.new.n ≡ self.old.n }
+        ensures x { self.new.x ≡ self.old.x }
+        ensures y { self.new.y ≡ self.old.y }
+        ensures square { self.new.square ≡ self.old.square }
+        ensures jumps { self.new.jumps
+            ≡ self.old.jumps + pair (is_jump limit) (Some before) (Some p) }
+        ensures same { self.new.same ≡ self.old.same + pair is_same (Some before) (Some p) }
+    {
+        self.jumps += jumps_in(Some(before), Some(p), limit);
+        self.same += same_in(Some(before), Some(p));
+    }
+
+    /// Those with at most one pair of neighbours less.
+    pub(crate) fn part(&mut self, p: Place, after: Option<Place>, limit: i64)
         requires jumps { pair (is_jump limit) (Some p) after ≤ self.old.jumps }
         requires same { pair is_same (Some p) after ≤ self.old.same }
         requires near { IsVectorWithin (2 ^ 43) p }
         requires after { IfSome after (IsVectorWithin (2 ^ 43)) }
-        ensures n { self.new.n ≡ self.old.n - 1 }
-        ensures x { self.new.x ≡ self.old.x -ℤ p.north }
-        ensures y { self.new.y ≡ self.old.y -ℤ p.east }
-        ensures square { self.new.square ≡ self.old.square -ℤ square_of p }
+        ensures n { self.new.n ≡ self.old.n }
+        ensures x { self.new.x ≡ self.old.x }
+        ensures y { self.new.y ≡ self.old.y }
+        ensures square { self.new.square ≡ self.old.square }
         ensures jumps { self.new.jumps ≡ self.old.jumps - pair (is_jump limit) (Some p) after }
         ensures same { self.new.same ≡ self.old.same - pair is_same (Some p) after }
     {
-        self.n -= 1;
-        self.x = less(self.x, p.north);
-        self.y = less(self.y, p.east);
-        self.square = difference(self.square, square(&p));
         self.jumps -= jumps_in(Some(p), after, limit);
         self.same -= same_in(Some(p), after);
     }
+}
+
+/// A total into which one part came and from which another fell out.
+fn exchanged(total: i128, part: i64, out: i64) -> i128
+    requires total { unsigned_abs total ≤ 2 ^ 48 }
+    requires part { unsigned_abs part ≤ 2 ^ 43 }
+    requires out { unsigned_abs out ≤ 2 ^ 43 }
+    ensures { result ≡ total +ℤ (part -ℤ out) }
+{
+    total + (part - out) as i128
+}
+
+/// How far the squares of two places' parts are apart.
+fn squares_apart(p: &Place, q: &Place) -> i128
+    requires p { IsVectorWithin (2 ^ 43) p.now }
+    requires q { IsVectorWithin (2 ^ 43) q.now }
+    ensures value { result ≡ square_of p.now -ℤ square_of q.now }
+    ensures bound { unsigned_abs result ≤ 2 ^ 89 }
+{
+    sum(square_apart(p.north, q.north), square_apart(p.east, q.east))
+}
+
+/// A square less another, as one product.
+fn square_apart(a: i64, b: i64) -> i128
+    requires a { unsigned_abs a ≤ 2 ^ 43 }
+    requires b { unsigned_abs b ≤ 2 ^ 43 }
+    ensures value { result ≡ a *ℤ a -ℤ b *ℤ b }
+    ensures bound { unsigned_abs result ≤ 2 ^ 88 }
+{
+    wide_product(less(a, b), more(a, b))
+}
+
+fn less(a: i64, b: i64) -> i64
+    requires a { unsigned_abs a ≤ 2 ^ 43 }
+    requires b { unsigned_abs b ≤ 2 ^ 43 }
+    ensures value { result ≡ a -ℤ b }
+    ensures bound { unsigned_abs result ≤ 2 ^ 44 }
+{
+    a - b
+}
+
+fn more(a: i64, b: i64) -> i64
+    requires a { unsigned_abs a ≤ 2 ^ 43 }
+    requires b { unsigned_abs b ≤ 2 ^ 43 }
+    ensures value { result ≡ a +ℤ b }
+    ensures bound { unsigned_abs result ≤ 2 ^ 44 }
+{
+    a + b
+}
+
+fn wide_product(a: i64, b: i64) -> i128
+    requires a { unsigned_abs a ≤ 2 ^ 44 }
+    requires b { unsigned_abs b ≤ 2 ^ 44 }
+    ensures value { result ≡ a *ℤ b }
+    ensures bound { unsigned_abs result ≤ 2 ^ 88 }
+{
+    a as i128 * b as i128
 }
 
 fn plus(total: i128, part: i64) -> i128
@@ -72,13 +160,6 @@ fn plus(total: i128, part: i64) -> i128
     ensures { result ≡ total +ℤ part }
 {
     total + part as i128
-}
-
-fn less(total: i128, part: i64) -> i128
-    requires total { unsigned_abs total ≤ 2 ^ 48 }
-    ensures { result ≡ total -ℤ part }
-{
-    total - part as i128
 }
 
 fn squared(z: i64) -> i128

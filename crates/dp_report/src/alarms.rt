@@ -58,8 +58,24 @@ fn append_references(into: &mut ArrayVec<u8, TEXT>, causes: &[Cause; 3])
 }
 
 /// Appends the line of reference `i`, if it isn't good.
-#[tactic(auto, unfolding(crate::specs::Alarms::cause_line))]
+#[inline]
+#[tactic(auto, using(crate::proofs::Nothing::no_fault))]
 fn append_cause(into: &mut ArrayVec<u8, TEXT>, i: u64, cause: Cause)
+    requires { array_vec_len into.old + 38 ≤ TEXT }
+    ensures text { into.new.items ≡ into.old.items ++ cause_line i cause }
+    ensures len { array_vec_len into.new ≤ array_vec_len into.old + 38 }
+{
+    match cause {
+        Cause::Good => {}
+        _ => append_fault(into, i, cause),
+    }
+}
+
+/// The same, out of the way of a good reference.
+#[cold]
+#[inline(never)]
+#[tactic(auto, unfolding(crate::specs::Alarms::cause_line))]
+fn append_fault(into: &mut ArrayVec<u8, TEXT>, i: u64, cause: Cause)
     requires { array_vec_len into.old + 38 ≤ TEXT }
     ensures text { into.new.items ≡ into.old.items ++ cause_line i cause }
     ensures len { array_vec_len into.new ≤ array_vec_len into.old + 38 }

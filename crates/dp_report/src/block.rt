@@ -5,7 +5,8 @@ ghost use Rattle.dp_report.specs.{block_text, thruster_lines};
 
 use crate::TEXT;
 use crate::alarms::append_alarms;
-use crate::text::{append_cycle, append_thruster};
+use crate::forces::append_thruster;
+use crate::text::append_cycle;
 use arrayvec::ArrayVec;
 use dp_plant::{Alarms, Ballot, Mode};
 
@@ -14,10 +15,10 @@ use dp_plant::{Alarms, Ballot, Mode};
 /// thrusters.
 #[derive(Debug, Drop)]
 pub struct Block {
-    pub cycle: u64,
-    pub modes: [Mode; 3],
     pub ballots: ArrayVec<Ballot, 12>,
     pub held: ArrayVec<[Option<i64>; 3], 12>,
+    pub cycle: u64,
+    pub modes: [Mode; 3],
     pub alarms: Option<Alarms>,
 }
 
@@ -34,6 +35,7 @@ pub fn write_block(b: &Block, into: &mut ArrayVec<u8, TEXT>)
 }
 
 /// Appends the line of each thruster.
+#[inline(never)]
 fn append_thrusters(
     into: &mut ArrayVec<u8, TEXT>,
     ballots: &ArrayVec<Ballot, 12>,

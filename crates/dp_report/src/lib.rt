@@ -35,6 +35,7 @@
 mod agreement;
 mod alarms;
 mod block;
+mod forces;
 mod text;
 
 pub use agreement::agree;

@@ -1,5 +1,5 @@
 -- The acts of each cycle.
-use Rattle.std.specs.Prelude.{ℕ, false, ◌==◌, List, [], ◌∷◌, map, if◌then◌else◌}
+use Rattle.std.specs.Prelude.{Bool, ℕ, length, false, ◌==◌, List, [], ◌∷◌, map, if◌then◌else◌}
 use Rattle.std.specs.List.{filter, flat_map, list_any, All}
 use Rattle.std.specs.List.Sorted.{IsNonDecreasingBy}
 use Rattle.dp_text.specs.Lines.{lines_of}
@@ -42,6 +42,11 @@ acts_at cycle timed_acts =
     or_usual
     (map (λ timed_act. timed_act.act)
     (filter (λ timed_act. timed_act.cycle == cycle) timed_acts))
+
+-- no timed act has this cycle, so it has the usual acts
+abbrev pub has_usual_acts : ℕ → List TimedAct → Bool
+has_usual_acts cycle timed_acts =
+    length (filter (λ timed_act. timed_act.cycle == cycle) timed_acts) == 0
 
 -- cycles don't go back, and the numbers of the acts are within their ranges
 pub record IsScript (timed_acts : List TimedAct) : Type 0 where

@@ -5,7 +5,7 @@ ghost use Rattle.dp_script.specs.declared.timed_act.TimedAct.{TimedAct};
 ghost use Rattle.dp_script.specs.Acts.{usual_acts, IsWithin};
 ghost use Rattle.dp_script.specs.Entries.{IsGiven};
 ghost use Rattle.dp_script.specs.Faults.{fault_in};
-ghost use Rattle.dp_script.specs.TimedActs.{acts_at, acts_in, timed_acts_by, timed_acts_of, timed_acts_with, IsScript};
+ghost use Rattle.dp_script.specs.TimedActs.{acts_at, acts_in, has_usual_acts, timed_acts_by, timed_acts_of, timed_acts_with, IsScript};
 ghost use Rattle.dp_text.specs.{lines_of};
 ghost use Rattle.dp_script.specs.declared.fault.ScriptFault.TheVariants.{Memory};
 
@@ -58,6 +58,13 @@ impl Script {
     {
         let named = named(self.timed_acts.as_slice(), cycle);
         if named.is_empty() { USUAL } else { named.len() }
+    }
+
+    /// No line names this cycle, so it has the usual six acts.
+    pub fn is_usual(&self, cycle: u64) -> bool
+        ensures { result ≡ has_usual_acts cycle self.now }
+    {
+        named(self.timed_acts.as_slice(), cycle).is_empty()
     }
 
     /// An act of a cycle, by its place, which counts from 0. Its numbers are within their ranges.

@@ -60,7 +60,7 @@ ends-right line is = record {
   low = grind (arith, nat_tests);
 }
 
-last-three : (line : List ℕ) → 4 ≤ length line
+pub last-three : (line : List ℕ) → 4 ≤ length line
     → drop (length line - 3) line ≡ get_or line (length line - 3) 0 ∷ get_or line (length line - 2) 0 ∷ get_or line (length line - 1) 0 ∷ []
 last-three line long =
     let two : length line - 3 + 1 ≡ length line - 2 = omega arith in

@@ -14,7 +14,7 @@ use Rattle.dp_sentence.specs.Damage.{is_bad, starts, damage, damage_but_fields, 
 use Rattle.dp_sentence.specs.declared.Damage.{Damage}
 use Rattle.dp_sentence.specs.declared.Damage.TheVariants.{TooLong, NoStart, BadByte, NoSum, BadSum, TooManyFields}
 
-start-is : (line : List ℕ) → starts line ≡ true → Starts line
+pub start-is : (line : List ℕ) → starts line ≡ true → Starts line
 start-is [] is = cc
 start-is (x ∷ xs) is = let e : x ≡ 36 = grind (arith, nat_tests) in rw e
 

@@ -1,7 +1,6 @@
 -- The fields of IEC 61162-1: the body of a line, between `$` and `*`, is parted by commas into the
 -- address field and the data fields.
-use Rattle.std.specs.Prelude.{ℕ, ◌-◌, List, [], ◌==◌, Bool, Option, Some, None, length, drop, slice_index_or, slice_range}
-use Rattle.std.specs.Borrow.{Bor}
+use Rattle.std.specs.Prelude.{ℕ, ◌-◌, List, [], ◌==◌, Bool, length, drop, slice_index_or, slice_range}
 use Rattle.std.specs.List.{slice_split}
 
 abbrev pub is_comma : ℕ → Bool
@@ -22,8 +21,3 @@ address line = slice_index_or (parts (body line)) 0 []
 -- the data fields, in their order
 unfoldable pub fields : List ℕ → List (List ℕ)
 fields line = drop 1 (parts (body line))
-
--- the parts of what follows a comma, if there is one
-unfoldable pub parts_after : Option (Bor (List ℕ)) → List (List ℕ)
-parts_after None = []
-parts_after (Some rest) = parts rest.now

@@ -1,19 +1,7 @@
 //! The checksum field at the end of a line.
 ghost use Rattle.std.specs.Prelude.{◌≡◌, ◌<◌, ◌≤◌, length, IsTrue};
 ghost use Rattle.std.specs.Char.{is_ascii_hexdigit, digit_value};
-ghost use Rattle.dp_sentence.specs.{checksum, has_checksum_field, said};
-
-/// The exclusive-or of all bytes.
-#[tactic(auto, unfolding(crate::specs::Checksum::checksum))]
-pub(crate) fn checksum(bytes: &[u8]) -> u8
-    ensures { result ≡ checksum bytes.now }
-{
-    let mut sum = 0;
-    for byte in bytes {
-        sum ^= *byte;
-    }
-    sum
-}
+ghost use Rattle.dp_sentence.specs.{has_checksum_field, said};
 
 /// Whether a line ends with `*` and two hexadecimal digits, after one byte at least.
 #[tactic(auto, unfolding(crate::specs::Checksum::has_checksum_field))]

@@ -1,79 +1,72 @@
 //! The parts of a body between its commas.
-ghost use Rattle.std.specs.Prelude.{◌≡◌, ◌<◌, ◌≤◌, [], ◌∷◌, ◌↔◌, count_by, drop, length, map, slice_index_or, take, IsNone, IsSome, IfSome};
+ghost use Rattle.std.specs.Prelude.{◌≡◌, ◌+◌, ◌<◌, ◌≤◌, [], ◌∷◌, drop, length, map, slice_index_or, take};
 ghost use Rattle.std.specs.List.{position_or_len};
-ghost use Rattle.std.specs.Option.{ForSome};
-ghost use Rattle.dp_sentence.specs.{is_comma, parts, parts_after};
+ghost use Rattle.dp_sentence.specs.{is_comma, parts};
 
 use arrayvec::ArrayVec;
 
 const COMMA: u8 = b',';
 
-const MAX_FIELDS: u8 = 24;
-
-/// The address of a body, whose first data fields are kept, as many as there is room for; none if it has more than 24 data fields.
+/// The address of a body with this many commas, whose first data fields are kept, as many as there is room for.
 pub(crate) fn split<'a, const N: usize>(
     body: &'a [u8],
+    commas: u8,
     into: &mut ArrayVec<&'a [u8], N>,
-) -> Option<&'a [u8]>
-    requires short { length body.now ≤ 255 }
+) -> &'a [u8]
+    requires commas { length (parts body.now) ≡ commas + 1 }
     requires empty { into.old.items ≡ [] }
-    ensures address { IfSome result (λ a. a.now ≡ slice_index_or (parts body.now) 0 []) }
-    ensures kept { IsSome result
-        → map (λ field. field.now) into.new.items ≡ take N (drop 1 (parts body.now)) }
-    ensures none { IsNone result ↔ (25 < length (parts body.now)) }
+    ensures address { result.now ≡ slice_index_or (parts body.now) 0 [] }
+    ensures kept { map (λ field. field.now) into.new.items ≡ take N (drop 1 (parts body.now)) }
 {
-    if commas(body) > MAX_FIELDS {
-        return None;
+    if commas == 0 {
+        return body;
     }
     let (address, rest) = cut(body);
-    keep(rest, into);
-    Some(address)
+    keep(rest, commas - 1, into);
+    address
 }
 
-/// Keeps the first parts of what is left, as many as there is room for.
-fn keep<'a, const N: usize>(rest: Option<&'a [u8]>, into: &mut ArrayVec<&'a [u8], N>)
-    requires { into.old.items ≡ [] }
-    ensures { map (λ field. field.now) into.new.items ≡ take N (parts_after rest.entry) }
+/// Keeps the first parts of a text with this many commas, as many as there is room for.
+fn keep<'a, const N: usize>(rest: &'a [u8], commas: u8, into: &mut ArrayVec<&'a [u8], N>)
+    requires commas { length (parts rest.now) ≡ commas + 1 }
+    requires empty { into.old.items ≡ [] }
+    ensures { map (λ field. field.now) into.new.items ≡ take N (parts rest.now) }
 {
     let mut rest = rest;
-    while let Some(tail) = rest {
+    let mut commas = commas;
+    while commas > 0 {
         if into.is_full() {
             return;
         }
-        let (field, more) = cut(tail);
+        let (field, more) = cut(rest);
         into.push(field);
         rest = more;
+        commas -= 1;
     }
+    if into.is_full() {
+        return;
+    }
+    into.push(rest);
 }
 
-/// The bytes before the first comma, and those after it, if there is one.
-fn cut(text: &[u8]) -> (&[u8], Option<&[u8]>)
-    ensures parts { parts text.now ≡ result.0.now ∷ parts_after result.1 }
-    ensures less { ForSome result.1 (λ rest. length rest.now < length text.now) }
+/// The bytes before the first comma, and those after it.
+fn cut(text: &[u8]) -> (&[u8], &[u8])
+    requires { 1 < length (parts text.now) }
+    ensures { parts text.now ≡ result.0.now ∷ parts result.1.now }
 {
-    let at = before_comma(text);
-    if at < text.len() {
-        (&text[..at], Some(&text[at + 1..]))
-    } else {
-        (text, None)
-    }
+    let at = comma_place(text);
+    (&text[..at], &text[at + 1..])
 }
 
-/// How many bytes come before the first comma.
-fn before_comma(text: &[u8]) -> usize
-    ensures { result ≡ position_or_len is_comma text.now }
+/// The place of the first comma. Since there is one, the end of the text needs no look.
+fn comma_place(text: &[u8]) -> usize
+    requires { 1 < length (parts text.now) }
+    ensures place { result ≡ position_or_len is_comma text.now }
+    ensures within { result < length text.now }
 {
-    text.iter().take_while(|byte| **byte != COMMA).count()
-}
-
-/// How many commas there are.
-fn commas(text: &[u8]) -> u8
-    requires { length text.now ≤ 255 }
-    ensures { result ≡ count_by is_comma text.now }
-{
-    let mut count = 0;
-    for byte in text {
-        count += u8::from(*byte == COMMA);
+    let mut at = 0;
+    while text[at] != COMMA {
+        at += 1;
     }
-    count
+    at
 }

@@ -32,13 +32,14 @@
 //! [`laws`] has what follows for every line: a sentence written back is its line but for the case of the two digits, and a sentence
 //! with one byte of its body changed is none.
 //!
-//! Not proved: that `read` takes no memory and looks at each byte four times at most.
+//! Not proved: that `read` takes no memory and looks at each byte three times at most.
 #![tactic(auto)]
 
 mod address;
 mod checksum;
 mod fields;
 pub mod laws;
+mod looking;
 mod reading;
 
 use arrayvec::ArrayVec;

@@ -1,16 +1,22 @@
 //! Reading one line as a sentence.
-ghost use Rattle.std.specs.Prelude.{◌≡◌, ◌≤◌, ◌↔◌, [], drop, length, map, position, slice_index_or, take, IsOk, IfOk};
+ghost use Rattle.std.specs.Prelude.{◌≡◌, ◌+◌, ◌↔◌, [], drop, length, map, position, slice_index_or, take, IsOk, IfOk, IsTrue, Some};
 ghost use Rattle.std.specs.List.{list_any};
+ghost use Rattle.std.specs.Option.{option_or};
 ghost use Rattle.std.specs.Result.{result_err};
-ghost use Rattle.dp_sentence.specs.{IsDamagedBy, IsSentence, StandsInOrder, body, damage, damage_but_fields, fields, formatter, formatter_of, is_bad, parts, talker, talker_of, too_many_fields};
+ghost use Rattle.dp_sentence.specs.Damage.{bad_byte, starts};
+ghost use Rattle.dp_sentence.specs.declared.Damage.TheVariants.{NoSum};
+ghost use Rattle.dp_sentence.specs.{IsDamagedBy, IsSentence, StandsInOrder, body, damage, damage_but_fields, fields, formatter, formatter_of, has_checksum_field, is_bad, parts, talker, talker_of, too_many_fields};
 
 use crate::address::talker_and_formatter;
-use crate::checksum::{checksum, has_checksum_field, said};
+use crate::checksum::{has_checksum_field, said};
 use crate::fields::split;
+use crate::looking::look;
 use crate::{AddressField, Damage, Sentence};
 use arrayvec::ArrayVec;
 
 const MAX_LENGTH: usize = 160;
+
+const MAX_FIELDS: u8 = 24;
 
 /// Reads a line, without its end, as a sentence. The parts are slices of the line.
 ///
@@ -61,11 +67,18 @@ pub fn read_first<'a, const N: usize>(
     address_of(body, into)
 }
 
+/// The body of a line, and how many commas stand in it.
+#[derive(Clone, Copy)]
+struct Body<'a> {
+    bytes: &'a [u8],
+    commas: u8,
+}
+
 /// The body of a line whose structure and checksum are right.
 #[tactic(auto, unfolding(crate::specs::Damage::damage_but_fields, crate::specs::Fields::body))]
-fn checked_body(line: &[u8]) -> Result<&[u8], Damage>
-    ensures body { IfOk result (λ b. b.now ≡ body line.now) }
-    ensures short { IfOk result (λ b. length b.now ≤ 255) }
+fn checked_body(line: &[u8]) -> Result<Body<'_>, Damage>
+    ensures body { IfOk result (λ b. b.bytes.now ≡ body line.now) }
+    ensures commas { IfOk result (λ b. length (parts b.bytes.now) ≡ b.commas + 1) }
     ensures damage { result_err result ≡ damage_but_fields line.now }
 {
     if line.len() > MAX_LENGTH {
@@ -74,62 +87,71 @@ fn checked_body(line: &[u8]) -> Result<&[u8], Damage>
     if line.is_empty() || line[0] != b'$' {
         return Err(Damage::NoStart);
     }
-    if let Some(place) = bad_place(line) {
+    if !has_checksum_field(line) {
+        return Err(damage_without_sum(line));
+    }
+    let body = &line[1..line.len() - 3];
+    let found = look(body);
+    if let Some(place) = bad_place_where(line, found.bad) {
         return Err(Damage::BadByte { place });
     }
-    if !has_checksum_field(line) {
-        return Err(Damage::NoSum);
-    }
     let said = said(line);
-    let body = &line[1..line.len() - 3];
-    let found = checksum(body);
-    if said != found {
-        return Err(Damage::BadSum { said, found });
+    let sum = found.sum;
+    if said != sum {
+        return Err(Damage::BadSum { said, found: sum });
     }
-    Ok(body)
+    Ok(Body {
+        bytes: body,
+        commas: found.commas,
+    })
+}
+
+/// What is wrong with a line that starts right and has no checksum field.
+fn damage_without_sum(line: &[u8]) -> Damage
+    ensures { Some result ≡ option_or (bad_byte (position is_bad line.now)) (Some NoSum) }
+{
+    match bad_place(line) {
+        Some(place) => Damage::BadByte { place },
+        None => Damage::NoSum,
+    }
+}
+
+/// The first place of a byte outside 32 to 126, in a line that starts right and has a checksum field, by whether its body has such a byte.
+fn bad_place_where(line: &[u8], bad: bool) -> Option<usize>
+    requires start { IsTrue (starts line.now) }
+    requires field { IsTrue (has_checksum_field line.now) }
+    requires bad { bad ≡ list_any is_bad (body line.now) }
+    ensures { result ≡ position is_bad line.now }
+{
+    if bad { bad_place(line) } else { None }
 }
 
 /// The first place of a byte outside 32 to 126.
 fn bad_place(line: &[u8]) -> Option<usize>
     ensures { result ≡ position is_bad line.now }
 {
-    if !has_bad(line) {
-        return None;
-    }
     line.iter().position(|byte| *byte < 32 || *byte > 126)
-}
-
-/// Whether a byte is outside 32 to 126. It looks at all, which is faster than to stop at the first.
-fn has_bad(line: &[u8]) -> bool
-    ensures { result ≡ list_any is_bad line.now }
-{
-    let mut bad = false;
-    for byte in line {
-        bad |= *byte < 32 || *byte > 126;
-    }
-    bad
 }
 
 /// The address of a body, whose first data fields are kept, as many as there is room for.
 fn address_of<'a, const N: usize>(
-    body: &'a [u8],
+    body: Body<'a>,
     into: &mut ArrayVec<&'a [u8], N>,
 ) -> Result<AddressField<'a>, Damage>
-    requires short { length body.now ≤ 255 }
+    requires commas { length (parts body.bytes.now) ≡ body.commas + 1 }
     requires empty { into.old.items ≡ [] }
     ensures talker { IfOk result
-        (λ a. a.talker.now ≡ talker_of (slice_index_or (parts body.now) 0 [])) }
+        (λ a. a.talker.now ≡ talker_of (slice_index_or (parts body.entry.bytes.now) 0 [])) }
     ensures formatter { IfOk result
-        (λ a. a.formatter.now ≡ formatter_of (slice_index_or (parts body.now) 0 [])) }
+        (λ a. a.formatter.now ≡ formatter_of (slice_index_or (parts body.entry.bytes.now) 0 [])) }
     ensures fields { IsOk result
-        → map (λ field. field.now) into.new.items ≡ take N (drop 1 (parts body.now)) }
-    ensures damage { result_err result ≡ too_many_fields (drop 1 (parts body.now)) }
+        → map (λ field. field.now) into.new.items ≡ take N (drop 1 (parts body.entry.bytes.now)) }
+    ensures damage { result_err result ≡ too_many_fields (drop 1 (parts body.entry.bytes.now)) }
 {
-    match split(body, into) {
-        None => Err(Damage::TooManyFields),
-        Some(address) => {
-            let (talker, formatter) = talker_and_formatter(address);
-            Ok(AddressField { talker, formatter })
-        }
+    if body.commas > MAX_FIELDS {
+        return Err(Damage::TooManyFields);
     }
+    let address = split(body.bytes, body.commas, into);
+    let (talker, formatter) = talker_and_formatter(address);
+    Ok(AddressField { talker, formatter })
 }

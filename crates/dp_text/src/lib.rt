@@ -10,8 +10,11 @@ mod lines;
 mod numbers;
 mod parts;
 mod printing;
+mod repeated;
+mod spelling;
 
 pub use lines::next_line;
 pub use numbers::{decimal, number};
 pub use parts::{cut, split_parts};
 pub use printing::{append, append_decimal, append_number, append_wide};
+pub use repeated::append_four_times;

@@ -1,7 +1,8 @@
-ghost use Rattle.std.specs.Prelude.{◌≡◌, ◌≤◌, ◌<◌, ◌+◌, ◌%◌, ◌++◌, ◌∷◌, [], length};
+ghost use Rattle.std.specs.Prelude.{◌≡◌, ◌≤◌, ◌+◌, ◌++◌, length};
 ghost use Rattle.std.specs.Fmt.{decimal, signed_decimal};
 ghost use Rattle.arrayvec.specs.ArrayVec.{array_vec_len};
 
+use crate::spelling::{append_one, append_small};
 use arrayvec::ArrayVec;
 use itoa::Buffer;
 
@@ -17,16 +18,16 @@ pub fn append<const N: usize>(into: &mut ArrayVec<u8, N>, piece: &[u8])
 }
 
 /// Appends a number's decimal digits, at most 20.
+#[inline]
 pub fn append_decimal<const N: usize>(into: &mut ArrayVec<u8, N>, number: u64)
     requires { array_vec_len into.old + 20 ≤ N }
     ensures text { into.new.items ≡ into.old.items ++ decimal number }
     ensures len { array_vec_len into.new ≤ array_vec_len into.old + 20 }
 {
-    if number < 1000 {
-        append_small(into, number);
+    if number < 10 {
+        append_one(into, number);
     } else {
-        let mut buffer = Buffer::new();
-        append(into, buffer.format(number).as_bytes());
+        append_digits(into, number);
     }
 }
 
@@ -36,71 +37,51 @@ pub fn append_number<const N: usize>(into: &mut ArrayVec<u8, N>, number: i64)
     ensures text { into.new.items ≡ into.old.items ++ signed_decimal number }
     ensures len { array_vec_len into.new ≤ array_vec_len into.old + 20 }
 {
-    if 0 <= number && number < 1000 {
+    if 0 <= number && number < 1_000_000 {
         append_small(into, number as u64);
-    } else if -1000 < number && number < 0 {
+    } else if -1_000_000 < number && number < 0 {
         into.push(b'-');
         append_small(into, number.unsigned_abs());
     } else {
-        let mut buffer = Buffer::new();
-        append(into, buffer.format(number).as_bytes());
+        append_far(into, number);
     }
 }
 
-/// Appends the digits of a number below 1000, one by one: most numbers of a text are so small, and this is faster than to copy them.
-fn append_small<const N: usize>(into: &mut ArrayVec<u8, N>, number: u64)
-    requires small { number < 1000 }
-    requires room { array_vec_len into.old + 3 ≤ N }
+/// The same of a number of any size.
+fn append_digits<const N: usize>(into: &mut ArrayVec<u8, N>, number: u64)
+    requires { array_vec_len into.old + 20 ≤ N }
     ensures text { into.new.items ≡ into.old.items ++ decimal number }
-    ensures len { array_vec_len into.new ≤ array_vec_len into.old + 3 }
+    ensures len { array_vec_len into.new ≤ array_vec_len into.old + 20 }
 {
-    if number < 10 {
-        append_one(into, number);
-    } else if number < 100 {
-        append_two(into, number);
+    if number < 1_000_000 {
+        append_small(into, number);
     } else {
-        append_three(into, number);
+        append_large(into, number);
     }
 }
 
-fn append_one<const N: usize>(into: &mut ArrayVec<u8, N>, number: u64)
-    requires small { number < 10 }
-    requires room { array_vec_len into.old < N }
+/// Appends a number as itoa spells it, in a place of its own, and copies it.
+#[cold]
+#[inline(never)]
+fn append_large<const N: usize>(into: &mut ArrayVec<u8, N>, number: u64)
+    requires { array_vec_len into.old + 20 ≤ N }
     ensures text { into.new.items ≡ into.old.items ++ decimal number }
-    ensures len { array_vec_len into.new ≡ array_vec_len into.old + 1 }
+    ensures len { array_vec_len into.new ≤ array_vec_len into.old + 20 }
 {
-    append_last(into, number);
+    let mut buffer = Buffer::new();
+    append(into, buffer.format(number).as_bytes());
 }
 
-fn append_two<const N: usize>(into: &mut ArrayVec<u8, N>, number: u64)
-    requires above { 10 ≤ number }
-    requires small { number < 100 }
-    requires room { array_vec_len into.old + 2 ≤ N }
-    ensures text { into.new.items ≡ into.old.items ++ decimal number }
-    ensures len { array_vec_len into.new ≡ array_vec_len into.old + 2 }
+/// The same of a number that may be below zero.
+#[cold]
+#[inline(never)]
+fn append_far<const N: usize>(into: &mut ArrayVec<u8, N>, number: i64)
+    requires { array_vec_len into.old + 20 ≤ N }
+    ensures text { into.new.items ≡ into.old.items ++ signed_decimal number }
+    ensures len { array_vec_len into.new ≤ array_vec_len into.old + 20 }
 {
-    append_one(into, number / 10);
-    append_last(into, number);
-}
-
-fn append_three<const N: usize>(into: &mut ArrayVec<u8, N>, number: u64)
-    requires above { 100 ≤ number }
-    requires small { number < 1000 }
-    requires room { array_vec_len into.old + 3 ≤ N }
-    ensures text { into.new.items ≡ into.old.items ++ decimal number }
-    ensures len { array_vec_len into.new ≡ array_vec_len into.old + 3 }
-{
-    append_two(into, number / 10);
-    append_last(into, number);
-}
-
-/// Appends the last digit of a number.
-fn append_last<const N: usize>(into: &mut ArrayVec<u8, N>, number: u64)
-    requires { array_vec_len into.old < N }
-    ensures text { into.new.items ≡ into.old.items ++ (48 + number % 10) ∷ [] }
-    ensures len { array_vec_len into.new ≡ array_vec_len into.old + 1 }
-{
-    into.push(b'0' + (number % 10) as u8);
+    let mut buffer = Buffer::new();
+    append(into, buffer.format(number).as_bytes());
 }
 
 /// The same of a number of up to 128 bits; at most 40 bytes.

@@ -1,4 +1,3 @@
-mod Forces
 mod Limits
 mod Reasons
 mod Right

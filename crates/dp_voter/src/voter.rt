@@ -4,7 +4,6 @@ ghost use Rattle.dp_voter.specs.declared.order.Took.{Took};
 ghost use Rattle.dp_voter.specs.{IsDue, IsReasonFor, agreed_of, answer_of, ballot_of, begun, held_forces, new_voter, ordered, voted};
 
 use crate::{Ballot, Took};
-use dp_fixed::mid3;
 use std::marker::Model;
 
 /// How many cycles in a row, without a fresh ballot, the last fresh force is held.
@@ -148,7 +147,15 @@ fn agreed(first: Option<i64>, second: Option<i64>, third: Option<i64>) -> Option
 fn middle(a: i64, b: i64, c: i64) -> i64
     ensures { result ≡ mid3_of a b c }
 {
-    mid3(a as i128, b as i128, c as i128) as i64
+    let low = a.min(b);
+    let high = a.max(b);
+    if c <= low {
+        low
+    } else if high <= c {
+        high
+    } else {
+        c
+    }
 }
 
 fn equal(a: i64, b: i64) -> Option<i64>

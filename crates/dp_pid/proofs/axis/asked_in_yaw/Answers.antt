@@ -1,6 +1,13 @@
-use Rattle.std.proofs.Common.{rules}
-use Rattle.dp_pid.proofs.AxisAnswers.{asked_yaw_is}
+use Rattle.std.proofs.Common.{rules, of_z, to_z, unsigned_abs}
+use mir.Syntax.{w128}
+use Rattle.dp_pid.proofs.AxisAnswers.{asked_yaw_is, turn_small}
 use Rattle.dp_pid.proofs.axis.asked_in_yaw.Goals as goal
 
-pub returns : goal.returns
-returns c = asked_yaw_is c.args.axis c.args.along c.args.wind c.times_scale.result _ (search rules) (search rules)
+pub returns-clause-value : goal.returns-clause-value
+returns-clause-value c = asked_yaw_is c.args.axis c.args.along c.args.wind c.spring-spring.result c.held.result c.times_scale.result
+    (to_z w128 (of_z w128 c.against.result)) (search rules) (search rules) (search rules) (search rules)
+
+pub returns-clause-bound : goal.returns-clause-bound
+returns-clause-bound c = turn_small (unsigned_abs (to_z w128 (of_z w128 c.against.result))) (unsigned_abs c.spring-spring.result) (unsigned_abs c.held.result)
+    (unsigned_abs c.times_scale.result) (unsigned_abs c.args.along.error) (unsigned_abs c.args.along.velocity)
+    (search rules) (search rules) (search rules) (search rules) (search rules) (search rules)

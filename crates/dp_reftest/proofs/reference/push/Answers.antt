@@ -1,11 +1,13 @@
-use Rattle.std.proofs.Common.{List, [], ◌∷◌, ◌++◌, ap, ◌∙◌}
-use Rattle.circular_buffer.specs.Buffer.{Buffer, buffer}
+use Rattle.std.proofs.Common.{◌≤◌, ◌<◌, rules, List, [], ◌∷◌, ◌++◌, length, sym, ap, ◌∙◌, arith}
+use Rattle.std.proofs.lemmas.List.{length-append}
+use Rattle.circular_buffer.specs.Buffer.{buffer}
 use Rattle.dp_plant.specs.declared.place.Place.{Place}
-use Rattle.dp_reftest.proofs.Windows.{room_then_one}
+use Rattle.dp_reftest.proofs.Rings.{keep_all}
 use Rattle.dp_reftest.proofs.reference.push.Goals as goal
 
-pub returns-clause-items : goal.returns-clause-items
-returns-clause-items c =
+pub returns-else-is_full-clause-items : goal.returns-else-is_full-clause-items
+returns-else-is_full-clause-items c =
     let a = c.args.ring.now in
-    c.enter.ensures.items ∙ ap (λ (b : Buffer Place). buffer (b.items ++ c.args.at ∷ []) b.capacity) c.make_room.ensures.items
-    ∙ ap (λ (xs : List Place). buffer xs a.capacity) (room_then_one a.capacity a.items c.args.at c.requires.some)
+    let room : length a.items < a.capacity = search rules in
+    let fits : length (a.items ++ c.args.at ∷ []) ≤ a.capacity = omega (arith, length-append a.items (c.args.at ∷ []), room) in
+    c.enter.ensures.items ∙ ap (λ (ps : List Place). buffer ps a.capacity) (sym (keep_all a.capacity (a.items ++ c.args.at ∷ []) fits))

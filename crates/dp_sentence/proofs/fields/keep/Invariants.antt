@@ -1,12 +1,15 @@
-use Rattle.std.proofs.Common.{◌≡◌, ◌≤◌, ◌++◌, length}
+use Rattle.std.proofs.Common.{◌≡◌, ◌+◌, ◌≤◌, ◌++◌, length}
 use Rattle.std.specs.Prelude.{map}
-use Rattle.dp_sentence.specs.Fields.{parts_after}
-use Rattle.dp_sentence.proofs.Cuts.{length_after}
+use Rattle.dp_sentence.specs.Fields.{parts}
 use Rattle.dp_sentence.proofs.fields.keep.Given as goal
 
 -- the parts so far, and those of what is left
-abbrev pub invariant-loop-rest : goal.invariant-loop-rest
-invariant-loop-rest g l = (parts_after l.fn.rest ≡ map (λ f. f.now) l.into.items ++ parts_after l.rest) × (length l.into.items ≤ g.row.N)
+abbrev pub invariant-loop-commas : goal.invariant-loop-commas
+invariant-loop-commas g l = record {
+  all : parts l.fn.rest ≡ map (λ f. f.now) l.into.items ++ parts l.rest;
+  count : length (parts l.rest) ≡ l.commas + 1;
+  few : length l.into.items ≤ g.row.N;
+}
 
-abbrev pub decreases-loop-rest : goal.decreases-loop-rest
-decreases-loop-rest g l = length_after l.rest
+abbrev pub decreases-loop-commas : goal.decreases-loop-commas
+decreases-loop-commas g l = l.commas

@@ -17,5 +17,5 @@ returns-clause-limited c = cycle_limited c.args.plant.now c.args.at.now c.args.n
 pub returns-clause-next : goal.returns-clause-next
 returns-clause-next c = cycle_next c.args.plant.now c.args.at.now c.args.now.now c.args.sensed c.args.pair c.args.place
     c.push_by-wind.result c.asked_of.result.a c.push_by-wind.ensures.value c.asked_of.ensures.demand
-    c.plane_after-plane.result c.yaw_after-yaw.result c.estimates_after.result
-    c.plane_after-plane.ensures.value c.yaw_after-yaw.ensures.value c.estimates_after.ensures.value
+    c.move_plane.new.plane c.move_yaw.new.yaw c.count_on.new.now
+    c.move_plane.ensures.value c.move_yaw.ensures.value c.count_on.ensures.value

@@ -12,7 +12,7 @@ use Rattle.dp_machine.proofs.machine.Machine.step_to.Goals as goal
 
 pub invariant_of-self : goal.invariant_of-self
 invariant_of-self c =
-    let count : c.self.inside.estimates.count + 1 ≡ c.of-cycle.result.next.count = sym (ap (λ (x : Estimates). x.count) c.of-cycle.ensures.next) in
+    let count : c.self.inside.estimates.count + 1 ≡ c.of-cycle.new.now.count = sym (ap (λ (x : Estimates). x.count) c.of-cycle.ensures.next) in
     record {
       sound = c.self.invariant.sound;
       accepted = c.self.invariant.accepted;
@@ -30,8 +30,8 @@ returns-clause-issued c =
     ∙ step_is c.self.inside.plant c.args.at.now c.self.inside.estimates c.self.inside.references c.take.new.self c.self.inside.demands.items c.args.f.now
     c.self.invariant.references c.take.ensures c.of-sensed.result c.pair-pair.result c.verdicts-verdicts.result c.measured_by-place.result
     c.of-sensed.ensures.value (c.pair-pair.ensures.value ∙ ap pair_of c.unwrap_or.ensures) c.verdicts-verdicts.ensures.value c.measured_by-place.ensures.value
-    c.of-cycle.result.demand c.forces.result.items c.of-cycle.result.limited c.add.new.ring.items c.alarms_of.result c.of-cycle.result.next
-    c.of-cycle.ensures.demand c.of-cycle.ensures.limited c.of-cycle.ensures.next (c.forces.ensures ∙ forces_are c.self.inside.plant c.self.inside.cases c.of-sensed.result.lost c.of-cycle.result.demand c.self.invariant.cases)
+    c.of-cycle.result.demand c.share_out.new.forces.items c.of-cycle.result.limited c.add.new.ring.items c.alarms_of.result c.of-cycle.new.now
+    c.of-cycle.ensures.demand c.of-cycle.ensures.limited c.of-cycle.ensures.next (c.share_out.ensures ∙ forces_are c.self.inside.plant c.self.inside.cases c.of-sensed.result.lost c.of-cycle.result.demand c.self.invariant.cases)
     (last_is c.self.inside.demands c.add.new.ring c.of-cycle.result.demand c.self.invariant.demands.capacity c.add.ensures)
     (c.alarms_of.ensures ∙ ap (λ (m : List ℤ). alarms_by c.self.inside.plant c.verdicts-verdicts.result c.args.f.now c.measured_by-place.result c.of-sensed.result c.of-cycle.result.limited m) c.mean-mean.ensures)
 
