@@ -3,7 +3,7 @@ use Rattle.std.proofs.Common.{◌≡◌, ℕ, Bool, true, false, if◌then◌els
 use Rattle.toml.specs.Data.{Data, Members, table}
 use Rattle.dp_plant.proofs.PlantFrom.{plant_from}
 use Rattle.dp_plant.specs.Keys.{Fault as KeyFault}
-use Rattle.dp_plant.specs.PlantFile.{PlantData, plant_at, plant_view}
+use Rattle.dp_plant.specs.PlantFile.{PlantData, plant_at}
 use Rattle.dp_plant.specs.declared.plant.Plant.{Plant}
 use Rattle.dp_shell.specs.Texts.{Files, text_named}
 use Rattle.dp_app.specs.declared.fault.Fault.{Fault}
@@ -91,7 +91,7 @@ by_prefix : (f : Prefix) (b : Bool) (found : PlantData) → (if b then Err (Long
 by_prefix f true found is = absurd cc
 by_prefix f false found is = by_document (document_of f.text) found is
 
-document_in : (text : Option (List ℕ)) (found : PlantData) → data_in text ≡ Ok found → (document : Option Data) × (plant_at document ≡ Ok found)
+pub document_in : (text : Option (List ℕ)) (found : PlantData) → data_in text ≡ Ok found → (document : Option Data) × (plant_at document ≡ Ok found)
 unfolding data_within
 document_in (Some text) found is = by_prefix (prefix_of plant_limit text) (prefix_of plant_limit text).goes_on found is
 document_in None found is = absurd cc

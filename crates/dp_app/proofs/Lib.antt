@@ -13,6 +13,8 @@ pub mod Blocks
 pub mod FreshForces
 mod OwnTaken
 pub mod BoundedForces
+pub mod FileSizes
+pub mod ValidGains
 pub mod AcceptedTasks
 pub mod Playing
 pub mod Showing

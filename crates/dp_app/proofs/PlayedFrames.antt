@@ -15,7 +15,8 @@ use Rattle.dp_script.specs.declared.act.Act.{Act}
 use Rattle.dp_script.specs.declared.act.Act.TheVariants.{Run, Order, Orders, Tell, Skew, Say, Lie, Junk, Stop, Restart, Upgrade}
 use Rattle.dp_script.specs.declared.timed_act.TimedAct.{TimedAct}
 use Rattle.dp_script.specs.TimedActs.{acts_at}
-use Rattle.dp_app.specs.Acting.{act_events, cycle_events, events_of_acts, lie_events, order_events, place_of, play_events, vote_events, voters}
+use Rattle.dp_core.specs.Several.{order_events}
+use Rattle.dp_app.specs.Acting.{act_events, cycle_events, events_of_acts, lie_events, place_of, play_events, vote_events, voters}
 
 frames_ordered : (p : Plant) (c n : ℕ) (es : List Event) → frames (history p (order_events c n es)) ≡ frames (history p es)
 unfolding order_events

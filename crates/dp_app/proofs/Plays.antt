@@ -1,25 +1,16 @@
 -- One more act, voter or frame of what is played.
 use Rattle.std.proofs.Common.{◌≡◌, ℕ, ◌+◌, List, [], ◌∷◌, ◌++◌, take, Some, slice_get, refl, ap, ◌∙◌, add-one}
-use Rattle.std.proofs.lemmas.List.{append-nil}
-use Rattle.std.proofs.lemmas.Grind.{flat_map-append}
 use Rattle.dp_plant.specs.declared.frames.Frame.{Frame}
 use Rattle.dp_plant.specs.declared.plant.Plant.{Plant}
 use Rattle.dp_core.specs.declared.event.Event.{Event}
-use Rattle.dp_core.specs.declared.event.Event.TheVariants.{Order, Vote}
-use Rattle.dp_report.specs.Block.{block_text}
+use Rattle.dp_core.specs.declared.event.Event.TheVariants.{Run, Vote, Wire}
+use Rattle.dp_core.specs.Several.{order_events}
 use Rattle.dp_script.specs.declared.act.Act.{Act}
 use Rattle.dp_script.specs.declared.timed_act.TimedAct.{TimedAct}
-use Rattle.dp_app.specs.Acting.{act_events, cycle_events, events_of_acts, order_events, play_events, vote_events}
-use Rattle.dp_app.specs.Blocks.{block_of, blocks, text_of}
+use Rattle.dp_script.specs.Acts.{usual_acts}
+use Rattle.dp_app.specs.Acting.{act_events, cycle_events, events_of_acts, play_events, vote_events, voters}
+use Rattle.dp_app.specs.Blocks.{block_of, blocks}
 use Rattle.dp_app.proofs.Lists.{take_next}
-
-pub ordered_next : (c n : ℕ) (es : List Event) → order_events c (n + 1) es ≡ Order c n ∷ order_events c n es
-unfolding order_events
-ordered_next c n es = ap (λ (m : ℕ). order_events c m es) (add-one n)
-
-pub ordered_none : (c : ℕ) (es : List Event) → order_events c 0 es ≡ es
-unfolding order_events
-ordered_none c es = refl
 
 pub voted_next : (n : ℕ) (es : List Event) → vote_events (n + 1) es ≡ Vote n ∷ vote_events n es
 unfolding vote_events
@@ -49,6 +40,12 @@ module _ (p : Plant) (cycle : ℕ) where
       ap (λ (l : List Act). events_of_acts p cycle l es) (take_next acts i x e)
       ∙ acted_append (take i acts) (x ∷ []) es
       ∙ acted_one x (events_of_acts p cycle (take i acts) es)
+
+  -- the usual acts behind a frame: each computer runs, and the orders of each go to all voters
+  pub acted_usual : (f : Frame) (es : List Event) → events_of_acts p cycle usual_acts (Wire f ∷ es)
+      ≡ order_events 2 (voters p) (order_events 1 (voters p) (order_events 0 (voters p) (Run 2 ∷ Run 1 ∷ Run 0 ∷ Wire f ∷ es)))
+  unfolding events_of_acts act_events
+  acted_usual f es = refl
 
 module _ (p : Plant) (script : List TimedAct) where
   pub played_append : (fs gs : List Frame) (es : List Event) → play_events p script (fs ++ gs) es ≡ play_events p script gs (play_events p script fs es)

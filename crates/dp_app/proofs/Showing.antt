@@ -1,12 +1,12 @@
 -- What one call shows after another.
-use Rattle.std.proofs.Common.{◌≡◌, ℕ, Bool, is_none, ◌+◌, List, [], ◌++◌, length, Option, None, refl, sym, ap, ◌∙◌, subst, arith, append_assoc, length-append}
+use Rattle.std.proofs.Common.{◌≡◌, ℕ, Bool, is_none, ◌+◌, List, [], ◌++◌, length, Option, None, sym, ap, ◌∙◌, subst, arith, length-append}
 use Rattle.std.specs.Io.KnownBytes.{Appends}
 use Rattle.std.proofs.lemmas.List.{append-nil}
 use Rattle.dp_plant.specs.declared.frames.Frame.{Frame}
 use Rattle.dp_plant.specs.declared.plant.Plant.{Plant}
 use Rattle.dp_script.specs.declared.timed_act.TimedAct.{TimedAct}
 use Rattle.dp_shell.specs.Taken.{AppendsCut}
-use Rattle.dp_shell.proofs.Taken.{appends_none, appends_then, cut_after, cut_before}
+use Rattle.dp_shell.proofs.Taken.{appends_none, cut_before}
 use Rattle.dp_app.specs.declared.player.Player.{Player}
 use Rattle.dp_app.specs.Playing.{HasPlayed, HasShown, IsPlaying, Shows, StopsShowing, text_played}
 use Rattle.dp_app.proofs.Playing.{text_grows, text_none}

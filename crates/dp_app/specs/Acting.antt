@@ -7,6 +7,7 @@ use Rattle.dp_core.specs.declared.event.Event.{Event}
 use Rattle.dp_core.specs.declared.event.Event.TheVariants as event
 use Rattle.dp_core.specs.History.{history}
 use Rattle.dp_core.specs.Mode.{mode}
+use Rattle.dp_core.specs.Several.{order_events}
 use Rattle.dp_core.specs.Shown.{spelling_at}
 use Rattle.dp_exchange.specs.ComputerState.{is_live}
 use Rattle.dp_plant.specs.declared.place.Place.{Place}
@@ -17,11 +18,6 @@ use Rattle.dp_script.specs.TimedActs.{acts_at}
 
 abbrev pub voters : Plant → ℕ
 voters p = length p.thrusters.items
-
--- the orders of computer c to the first n voters, in rising order
-unfoldable pub order_events : ℕ → ℕ → List Event → List Event
-order_events c zero es = es
-order_events c (suc n) es = event.Order c n ∷ order_events c n es
 
 -- a vote of each of the first n voters, in rising order
 unfoldable pub vote_events : ℕ → List Event → List Event

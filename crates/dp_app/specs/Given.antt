@@ -9,7 +9,6 @@ use Rattle.dp_app.specs.declared.inputs.Task.TheVariants as given
 use Rattle.dp_app.specs.declared.player.Player.{Player}
 use Rattle.dp_app.specs.Causes.{HasPassed}
 use Rattle.dp_app.specs.Files.{prefix_of, script_limit}
-use Rattle.dp_app.specs.Headline.{WasAccepted}
 use Rattle.dp_app.specs.Outcome.{Task, play_made, script_fault_of, script_of, to_check, to_make, to_trial, whole}
 use Rattle.dp_app.specs.Playing.{HasPlayed}
 use Rattle.dp_app.specs.Streaming.{task_of_player}
@@ -28,13 +27,6 @@ IsReady (given.Replay i) = HasPlayed i.player.plant i.player.script true i.playe
 IsReady (given.Check r) = IsAcceptedPlant r.plant r.accepted
 IsReady (given.Make number) = Unit {0}
 IsReady (given.Trial t) = HasPlayed t.player.plant (script_of (whole [])) false t.player []
-
--- its plant, if it has one, was accepted
-abbrev pub HasAcceptedPlant : Given → Type 0
-HasAcceptedPlant (given.Replay i) = WasAccepted i.player.plant
-HasAcceptedPlant (given.Check r) = WasAccepted r.plant
-HasAcceptedPlant (given.Make number) = Unit {0}
-HasAcceptedPlant (given.Trial t) = WasAccepted t.player.plant
 
 -- the command replays this record, and its plant and its script have passed
 pub record IsRecordLeft (files : Option Files) (command : Option Command) (name : List ℕ)

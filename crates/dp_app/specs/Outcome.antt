@@ -1,6 +1,5 @@
 -- What a command asks for, how it ends, and all that it writes.
-use Rattle.std.specs.Prelude.{◌≡◌, ◌≢◌, ℕ, Bool, true, false, List, [], ◌++◌, length, Option, Some, None, is_some, Result, Ok, Err, if◌then◌else◌, codes}
-use Rattle.std.specs.Fmt.{decimal}
+use Rattle.std.specs.Prelude.{◌≡◌, ◌≢◌, ℕ, Bool, true, false, List, [], ◌++◌, length, Option, Some, None, is_some, Result, Ok, Err, if◌then◌else◌}
 use Rattle.dp_shell.specs.Texts.{Files, text_named}
 use Rattle.dp_text.specs.Lines.{lines_of as text_lines}
 use Rattle.dp_frame.specs.declared.fault.Refusal.{Refusal}

@@ -1,5 +1,5 @@
 -- The ballots of a replay, counted.
-use Rattle.std.specs.Prelude.{◌≡◌, ◌*◌, Option, IfSome, ◌^◌, ◌≤◌, ◌≤ℤ◌, ℕ, ℤ, Bool, true, false, List, [], ◌∷◌, ◌++◌, map, pos, neg_ℤ, codes}
+use Rattle.std.specs.Prelude.{◌≡◌, ◌*◌, Option, IfSome, ◌^◌, ◌≤◌, ◌≤ℤ◌, ℕ, ℤ, Bool, true, false, List, [], ◌++◌, map, pos, neg_ℤ, codes}
 use Rattle.std.specs.Fmt.{decimal, signed_decimal}
 use Rattle.std.specs.List.{count_by, flat_map}
 use Rattle.dp_consequence.specs.Demands.{sum_of}

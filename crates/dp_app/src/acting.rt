@@ -1,20 +1,63 @@
 //! The acts of a cycle, done on the world.
-ghost use Rattle.std.specs.Prelude.{◌≡◌, ◌≢◌, ◌<◌, ◌≤◌, ◌^◌, List};
+ghost use Rattle.std.specs.Prelude.{◌≡◌, ◌≢◌, ◌<◌, ◌≤◌, ◌^◌, ◌∷◌, List};
 ghost use Rattle.dp_core.specs.declared.event.Event.{Event};
+ghost use Rattle.dp_core.specs.declared.event.Event.TheVariants.{Wire};
 ghost use Rattle.dp_core.specs.Represents.{Represents};
-ghost use Rattle.dp_script.specs.{IsWithin, acts_at};
-ghost use Rattle.dp_app.specs.{act_events, events_of_acts, lie_events, order_events, voters};
+ghost use Rattle.dp_plant.specs.{IsFrameInRange};
+ghost use Rattle.dp_script.specs.{IsWithin, acts_at, usual_acts};
+ghost use Rattle.dp_app.specs.{act_events, events_of_acts, lie_events, voters};
 
 use arrayvec::ArrayVec;
 use dp_core::World;
-use dp_plant::{Place, Plant};
+use dp_plant::{Frame, Place, Plant};
 use dp_script::{Act, Script};
 
 /// Room for what a computer offers another, which holds nothing between two acts.
 pub type Text = ArrayVec<u8, 4096>;
 
+/// The next cycle but for its votes: its frame is heard by all computers, and the script's acts of it are done, one after another.
+pub fn begin_cycle(
+    world: &mut World,
+    plant: &Plant,
+    script: &Script,
+    frame: &Frame,
+    text: &mut Text,
+)
+    requires next { frame.now.cycle ≡ world.old.cycles_begun }
+    requires within { IsFrameInRange plant.now.groups frame.now }
+    requires plant { world.old.plant ≡ plant.now }
+    ensures represents { (es : List Event) → Represents es world.old
+        → Represents (events_of_acts plant.now frame.now.cycle
+        (acts_at frame.now.cycle script.now) (Wire frame.now ∷ es)) world.new }
+    ensures plant { world.new.plant ≡ plant.now }
+{
+    if script.is_usual(frame.cycle) {
+        begin_usual(world, plant, frame);
+    } else {
+        world.wire(frame);
+        perform_all(world, plant, script, frame.cycle, text);
+    }
+}
+
+/// The next cycle but for its votes, where no line of the script names it: each computer steps over the frame, and the orders of each go
+/// to all voters.
+fn begin_usual(world: &mut World, plant: &Plant, frame: &Frame)
+    requires next { frame.now.cycle ≡ world.old.cycles_begun }
+    requires within { IsFrameInRange plant.now.groups frame.now }
+    requires plant { world.old.plant ≡ plant.now }
+    ensures represents { (es : List Event) → Represents es world.old
+        → Represents (events_of_acts plant.now frame.now.cycle usual_acts
+        (Wire frame.now ∷ es)) world.new }
+    ensures plant { world.new.plant ≡ plant.now }
+{
+    world.advance(frame);
+    world.order_all(0);
+    world.order_all(1);
+    world.order_all(2);
+}
+
 /// The script's acts of a cycle are done, one after another.
-pub fn perform_all(world: &mut World, plant: &Plant, script: &Script, cycle: u64, text: &mut Text)
+fn perform_all(world: &mut World, plant: &Plant, script: &Script, cycle: u64, text: &mut Text)
     requires { world.old.plant ≡ plant.now }
     ensures represents { (es : List Event) → Represents es world.old
         → Represents (events_of_acts plant.now cycle (acts_at cycle script.now) es) world.new }
@@ -43,7 +86,7 @@ fn perform(world: &mut World, plant: &Plant, cycle: u64, act: Act, text: &mut Te
                 world.order(c, k);
             }
         }
-        Act::Orders { c } => order_all(world, plant, c),
+        Act::Orders { c } => world.order_all(c),
         Act::Tell { a, b } => {
             world.tell(a, b);
         }
@@ -87,19 +130,6 @@ fn lie(world: &mut World, a: u8, b: u8, at: Place, text: &mut Text)
 {
     if world.spell_at(a, at, text) {
         world.lie(a, b, text.as_slice());
-    }
-}
-
-/// The orders of a computer go to all voters, in rising order.
-fn order_all(world: &mut World, plant: &Plant, c: u8)
-    requires computer { c < 3 }
-    requires plant { world.old.plant ≡ plant.now }
-    ensures represents { (es : List Event) → Represents es world.old
-        → Represents (order_events c (voters plant.now) es) world.new }
-    ensures plant { world.new.plant ≡ plant.now }
-{
-    for k in 0..voters_of(plant) {
-        world.order(c, k);
     }
 }
 

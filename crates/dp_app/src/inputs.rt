@@ -5,7 +5,7 @@ ghost use Rattle.dp_core.specs.Represents.{Represents};
 ghost use Rattle.dp_machine.specs.{IsAcceptedPlant};
 ghost use Rattle.dp_app.specs.declared.fault.Fault.{Fault as FaultKind};
 ghost use Rattle.dp_app.specs.declared.fault.File.{File as FileKind};
-ghost use Rattle.dp_app.specs.{Asks, AsksNoFile, GivesNoFile, HasAcceptedPlant, HasPlayed, IsEmptyTally, IsOfInputs, IsReady, IsScriptRefusal, LeavesRecord, OthersKeep, PlaysScript, ReadFailed, RoseAt};
+ghost use Rattle.dp_app.specs.{Asks, AsksNoFile, GivesNoFile, HasPlayed, IsEmptyTally, IsOfInputs, IsReady, IsScriptRefusal, LeavesRecord, OthersKeep, PlaysScript, ReadFailed, RoseAt};
 ghost use Rattle.dp_app.specs.{Task as Asked, task_of, check, trial, whole, command_in, fault_status, files_of, files_read, replay};
 ghost use Rattle.dp_app.specs.{prefix_read, script_fault_of, script_of, shown_command};
 
@@ -55,7 +55,6 @@ pub fn gather<'a, F: Shelf>(
     ensures ok { IfOk result (λ t. IfSome (F.files shelf.old) (λ files.
         Asks (command_in (texts_of words.now)) files (task_of t files))) }
     ensures ready { IfOk result IsReady }
-    ensures accepted { IfOk result HasAcceptedPlant }
 
     // Of a replay the record is left to be read, after the plant and the script had passed.
     ensures left { IfOk result (LeavesRecord (F.files shelf.old)
@@ -101,7 +100,6 @@ fn gather_files<'a, F: Shelf>(
     ensures ok { IfOk result (λ t. IfSome (F.files shelf.old) (λ files.
         Asks (Some (shown_command command.now)) files (task_of t files))) }
     ensures ready { IfOk result IsReady }
-    ensures accepted { IfOk result HasAcceptedPlant }
     ensures left { IfOk result (LeavesRecord (F.files shelf.old)
         (Some (shown_command command.now))) }
     ensures err { IfErr result (λ fault. IsOfInputs (fault_status fault)
@@ -140,7 +138,6 @@ fn gather_check<'a, F: Shelf>(
     ensures ok { IfOk result (λ t. IfSome (F.files shelf.old) (λ files.
         Asks (Some (check plant_name.now)) files (task_of t files))) }
     ensures ready { IfOk result IsReady }
-    ensures accepted { IfOk result HasAcceptedPlant }
     ensures left { IfOk result (LeavesRecord (F.files shelf.old) (Some (check plant_name.now))) }
     ensures err { IfErr result (λ fault. IsOfInputs (fault_status fault)
         → IfSome (F.files shelf.old) (λ files.
@@ -171,7 +168,6 @@ fn gather_trial<'a, F: Shelf>(
     ensures ok { IfOk result (λ t. IfSome (F.files shelf.old) (λ files.
         Asks (Some (trial plant_name.now number)) files (task_of t files))) }
     ensures ready { IfOk result IsReady }
-    ensures accepted { IfOk result HasAcceptedPlant }
     ensures left { IfOk result (LeavesRecord (F.files shelf.old)
         (Some (trial plant_name.now number))) }
     ensures err { IfErr result (λ fault. IsOfInputs (fault_status fault)
@@ -222,7 +218,6 @@ fn gather_replay<'a, F: Shelf>(
         Asks (Some (replay plant_name.now record_name.now script_name.now)) files
         (task_of t files))) }
     ensures ready { IfOk result IsReady }
-    ensures accepted { IfOk result HasAcceptedPlant }
     ensures left { IfOk result (LeavesRecord (F.files shelf.old)
         (Some (replay plant_name.now record_name.now script_name.now))) }
     ensures err { IfErr result (λ fault. IsOfInputs (fault_status fault)

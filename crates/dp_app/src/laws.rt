@@ -27,6 +27,13 @@ pub fn taken_forces_are_own()
     held_is_own();
 }
 
+/// The plant of whatever words and files ask for was accepted: none of its cases is refused, and its own gains were accepted with its own
+/// certificate.
+pub fn asked_plants_are_accepted()
+    ensures { (c : Option Command) (files : Files) (x : Result Task Fault)
+        → Asks c files x → IsOnAcceptedPlant x }
+{}
+
 /// On an accepted plant each of the fresh ones is within the bound of the reference run of any other record that differs in what one
 /// position reference tells; and what a check tells are such bounds.
 pub fn fresh_forces_are_bounded()

@@ -147,12 +147,14 @@ impl Player {
         ensures plant { self.new.plant ≡ self.old.plant }
         ensures count { self.new.count ≡ self.old.count + 1 }
     {
-        let ballots = play_votes(
+        let mut ballots = ArrayVec::new();
+        play_votes(
             &mut self.world,
             &self.plant,
             &self.script,
             frame,
             &mut self.block,
+            &mut ballots,
         );
         self.count += 1;
         self.tally = Some(tally.with(&ballots));

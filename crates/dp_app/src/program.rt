@@ -10,7 +10,10 @@ use crate::Status;
 use crate::check::check;
 use crate::ending::announce;
 use crate::inputs::{Task, gather};
-use crate::laws::{fresh_forces_are_bounded, fresh_forces_are_reference, taken_forces_are_own};
+use crate::laws::{
+    asked_plants_are_accepted, fresh_forces_are_bounded, fresh_forces_are_reference,
+    taken_forces_are_own,
+};
 use crate::making::make;
 use crate::replay::replay;
 use crate::trial::trial;
@@ -52,14 +55,14 @@ pub fn run<F: Shelf, K: Sink>(alloc: Global, words: &[&str], shelf: &mut F, out:
         (x : Result Asked Fault) → Asks (command_in (texts_of words.now)) files x
         → TellsOwnForces x) }
 
-    // And on an accepted plant a fresh one is within the bound of the reference run of any other record that differs in what one
-    // position reference tells; the numbers of a check are such bounds.
+    // And a fresh one is within the bound of the reference run of any other record that differs in what one position reference tells;
+    // the numbers of a check are such bounds.
     ensures bounded { IfSome (F.files shelf.old) (λ files.
         (x : Result Asked Fault) → Asks (command_in (texts_of words.now)) files x
-        → IsOnAcceptedPlant x → TellsBoundedForces x) }
+        → TellsBoundedForces x) }
 
-    // The plant was accepted wherever the status is one that words and files give.
-    ensures accepted { IsOfInputs result → IfSome (F.files shelf.old) (λ files.
+    // For the plant was accepted, whatever the status is: nothing is asked for on any other.
+    ensures accepted { IfSome (F.files shelf.old) (λ files.
         (x : Result Asked Fault) → Asks (command_in (texts_of words.now)) files x
         → IsOnAcceptedPlant x) }
 
@@ -107,6 +110,7 @@ pub fn run<F: Shelf, K: Sink>(alloc: Global, words: &[&str], shelf: &mut F, out:
 {
     fresh_forces_are_reference();
     taken_forces_are_own();
+    asked_plants_are_accepted();
     fresh_forces_are_bounded();
     match gather(alloc, &*words, shelf) {
         Ok(Task::Replay(mut inputs)) => {

@@ -45,7 +45,7 @@ fn are_groups(rt: &impl Abort, groups: &[u8], wanted: &str) -> bool {
     rest.is_empty()
 }
 
-const ROWS: [&str; 8] = [
+const ROWS: &[&str] = &[
     "0~46000000,0,0~3~0,1,",
     "0~45000000,0,0~0~",
     "0~-45000000,20000000,-40000000~0~",

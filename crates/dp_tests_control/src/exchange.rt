@@ -168,7 +168,7 @@ fn frame(rt: &impl Abort, cycle: u64, at: Place) -> Frame
     }
 }
 
-const ROWS: [&str; 10] = [
+const ROWS: &[&str] = &[
     "states of two counts are both kept~c,0,9 c,1,10 z,2,9 h,2=kept h,2=kept t,0,2=kept t,1,2=kept~L1,L1,A1",
     "a state is too old or too new for one that has heard nothing~c,0,10 c,1,13 z,2,12 t,0,2=old,10,12 t,1,2=new,13,12~L1,L1,A1",
     "frames that wait at an adoption are run~c,0,3 c,1,3 z,2,3 h,2=kept h,2=kept t,0,2=kept t,1,2=adopted t,0,2=unasked r,2=i,3 r,2=i,4 r,2=idle~L1,L1,L1",

@@ -47,7 +47,7 @@ fn is_answered(rt: &impl Abort, voter: &mut Voter, call: &str, wanted: &str) -> 
     is_took(took, wanted)
 }
 
-const ROWS: [&str; 44] = [
+const ROWS: &[&str] = &[
     "three orders, one of them far off~-250000,250000~b,0 o,0,0,100=taken o,1,0,100=taken o,2,0,-9999=taken v=F,100",
     "the last fresh force is held for five cycles~-250000,250000~b,0 o,0,0,50=taken o,1,0,50=taken v=F,50 b,1 o,0,1,100=taken o,1,1,7=taken v=H,50 b,2 o,0,2,100=taken o,1,2,7=taken v=H,50 b,3 o,0,3,100=taken o,1,3,7=taken v=H,50 b,4 o,0,4,100=taken o,1,4,7=taken v=H,50 b,5 o,0,5,100=taken o,1,5,7=taken v=H,50 b,6 o,0,6,100=taken o,1,6,7=taken v=Z",
     "before the first cycle~-250000,250000~h=-,-,- o,0,0,0=stale,0 v=H,0 v=H,0 h=-,-,-",

@@ -88,7 +88,7 @@ fn is_said(said: Result<Reading, Skip>, wanted: &str) -> bool {
 }
 
 /// Sentences of a position reference.
-const FIXES: [&str; 74] = [
+const FIXES: &[&str] = &[
     "pos|$GPGGA,,4807.038,N,01131.000,E,1*5E|fix 28870380000,6910000000",
     "pos|$GPGGA,,4807.038,S,01131.000,W,1*51|fix -28870380000,-6910000000",
     "pos|$GPGGA,,4807.038,S,01131.000,E,1*43|fix -28870380000,6910000000",
@@ -166,7 +166,7 @@ const FIXES: [&str; 74] = [
 ];
 
 /// Sentences of gyros and wind sensors.
-const HEADINGS_AND_WINDS: [&str; 66] = [
+const HEADINGS_AND_WINDS: &[&str] = &[
     "gyro|$HEHDT,90.0,T*16|heading 9000",
     "gyro|$HEHDT,0,T*31|heading 0",
     "gyro|$HEHDT,359.99,T*10|heading 35999",
@@ -236,7 +236,7 @@ const HEADINGS_AND_WINDS: [&str; 66] = [
 ];
 
 /// Whole sentences, and sentences on other wires.
-const SENTENCES: [&str; 31] = [
+const SENTENCES: &[&str] = &[
     "pos|$GPGGA,123519,4807.038,N,01131.000,E,1,08,0.9,545.4,M,46.9,M,,*47|fix 28870380000,6910000000",
     "pos|$GPGGA,123519,4807.038,N,01131.000,E,0,08,0.9,545.4,M,46.9,M,,*46|invalid",
     "pos|$GNGGA,123519,4807.038,N,01131.000,E,1*4D|fix 28870380000,6910000000",
@@ -271,7 +271,7 @@ const SENTENCES: [&str; 31] = [
 ];
 
 /// Plain forms, and what is near to one.
-const PLAIN_FORMS: [&str; 61] = [
+const PLAIN_FORMS: &[&str] = &[
     "pos|L 0 0|place 0,0",
     "pos|L 1000 -250|place 1000000000,-250000000",
     "pos|L 8796093 0|place 8796093000000,0",

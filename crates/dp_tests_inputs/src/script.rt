@@ -143,7 +143,7 @@ fn at_most_65536_lines_are_not_skipped(rt: HostRuntime) -> Result<(), AllocError
     Ok(())
 }
 
-const ACTS: [&str; 31] = [
+const ACTS: &[&str] = &[
     "3 usual\n3 usual\n|3|r,0 r,1 r,2 a,0 a,1 a,2 r,0 r,1 r,2 a,0 a,1 a,2",
     "0 run 0\n0 run 1\n0 run 2\n|0|r,0 r,1 r,2",
     "0 run 002\n|0|r,2",
@@ -177,7 +177,7 @@ const ACTS: [&str; 31] = [
     "1 run 0\n1 stop 1\n2 orders 0\n4 usual\n4 order 0 0\n|3|r,0 r,1 r,2 a,0 a,1 a,2",
 ];
 
-const FAULTS: [&str; 96] = [
+const FAULTS: &[&str] = &[
     "3 usual\n2 usual\n|2|order",
     "0 run 3\n|1|range",
     "0 run\n|1|verb",

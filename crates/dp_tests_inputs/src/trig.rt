@@ -17,7 +17,7 @@ fn headings_have_their_pairs(rt: HostRuntime) {
     }
 }
 
-const ROWS: [&str; 63] = [
+const ROWS: &[&str] = &[
     "0,1073741824,0",
     "9000,0,1073741824",
     "18000,-1073741824,0",

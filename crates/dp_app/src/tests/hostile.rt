@@ -58,13 +58,60 @@ fn over_failing(
     read: u64,
     write: u64,
 ) -> Result<String, Fail> {
+    asked_failing(rt, alloc, &REPLAY, record, read, write)
+}
+
+/// What these words tell over such a shelf and such a sink.
+fn asked_failing(
+    rt: &impl Abort,
+    alloc: Global,
+    words: &[&str],
+    record: &str,
+    read: u64,
+    write: u64,
+) -> Result<String, Fail> {
     let plant = text_of(alloc, S1)?;
     let files = named(alloc, plant.as_bytes(), record.as_bytes(), b"")?;
     assert!(rt; fits_shelf(&files));
     let mut shelf = MemoryShelf::new(files, vec![in alloc; read]?);
     let mut out = MemorySink::new(alloc, vec![in alloc; write]?);
-    let status = run(alloc, &REPLAY, &mut shelf, &mut out);
+    let status = run(alloc, words, &mut shelf, &mut out);
     shown(alloc, status, out.bytes())
+}
+
+/// The other commands, and words that are none, where the read or the write of a number fails: `WORDS~READ~WRITE~CODE~TEXT`. Where the code
+/// is 0 this is how the text begins.
+#[test]
+fn failures_of_each_command_are_told(rt: HostRuntime) -> Result<(), Fail> {
+    let alloc = rt.alloc();
+    let rows: &[&str] = &[
+        "check plant~1~0~3~fault read plant\n",
+        "check plant~2~0~3~fault read plant\n",
+        "check plant~3~0~0~accepted\ncase 0\n",
+        "check plant~0~1~4~",
+        "check plant~0~2~4~accepted\n",
+        "check plant~1~1~4~",
+        "make 0~1~0~0~0 pos0 L -477 -254\n",
+        "make 0~0~1~4~",
+        "trial plant 0~1~0~3~fault read plant\n",
+        "trial plant 0~2~0~3~fault read plant\n",
+        "trial plant 0~3~1~4~",
+        "play plant~1~0~2~fault usage\n",
+        "play plant~0~1~4~",
+    ];
+    for row in rows {
+        let (line, rest) = row.split_once('~').unwrap_or(("", ""));
+        let (read, rest) = rest.split_once('~').unwrap_or(("", ""));
+        let (write, wanted) = rest.split_once('~').unwrap_or(("", ""));
+        let words = words_in(alloc, line)?;
+        let seen = asked_failing(&rt, alloc, &words, "", number(read), number(write))?;
+        if wanted.starts_with("0~") {
+            assert!(rt; seen.starts_with(wanted), "on {row}");
+        } else {
+            assert_eq!(rt; seen.as_str(), wanted, "on {row}");
+        }
+    }
+    Ok(())
 }
 
 /// So many lines before those of two cycles, which are read in many pieces: `COUNT~LINE~ALARM`, with the alarm that the first block has more
@@ -72,7 +119,7 @@ fn over_failing(
 #[test]
 fn floods_are_played(rt: HostRuntime) -> Result<(), Fail> {
     let alloc = rt.alloc();
-    let rows = [
+    let rows: &[&str] = &[
         "0~~",
         "5000~0 pos0 L 9 9\n~",
         "100000~0 pos0 L 9 9\n~",
@@ -109,7 +156,7 @@ const FLOODED_FORCES: &str =
 const FLOODED_END: &str =
     "cycle 1 LLL\nt0 F -171 -171 -171 -171\nt1 F -171 -171 -171 -171\nt2 F 0 0 0 0\nt3 F 0 0 0 0\nt4 F 0 0 0 0\nt5 F 0 0 0 0\nalarm ref 1 silent\nalarm ref 2 silent\nalarm gyro\nalarm wind\nend 2\n";
 
-const ROWS: [&str; 59] = [
+const ROWS: &[&str] = &[
     "cut~0~0~0~0~end 0\n~",
     "cut~1~1~7~0~fault record 1 badtime\n~",
     "cut~2~2~7~0~fault record 1 nowire\n~",

@@ -10,7 +10,7 @@ use std::test::Fail;
 fn the_sample_plant_is_played(rt: HostRuntime) -> Result<(), Fail> {
     let alloc = rt.alloc();
     let plant = text_of(alloc, S1)?;
-    let rows = [
+    let rows: &[&str] = &[
         // no cycle
         "\
          ~\
@@ -99,7 +99,7 @@ fn edited(alloc: Global, old: &str, new: &str) -> Result<String, Fail> {
 #[test]
 fn plants_are_refused(rt: HostRuntime) -> Result<(), Fail> {
     let alloc = rt.alloc();
-    let rows = [
+    let rows: &[&str] = &[
         "[plant]~a =~5~fault plant toml\n",
         "cycle_ms = 1000\n~~5~fault plant missing plant.cycle_ms\n",
         "cycle_ms = 1000~cycle_ms = \"x\"~5~fault plant kind plant.cycle_ms\n",
@@ -135,7 +135,7 @@ fn plants_are_refused(rt: HostRuntime) -> Result<(), Fail> {
 #[test]
 fn the_first_refusal_is_told(rt: HostRuntime) -> Result<(), Fail> {
     let alloc = rt.alloc();
-    let rows = [
+    let rows: &[&str] = &[
         // a case comes before the gains, and both before the script
         "max = 100~rho = 1073741824~check plant~5~fault plant corner 0 0 125026 100\n",
         "max = 250000~rho = 1073741824~replay plant none none~6~fault gains rate\n",

@@ -8,7 +8,7 @@ use std::test::Fail;
 /// Position fixes.
 #[test]
 fn fixes_are_read(rt: HostRuntime) -> Result<(), Fail> {
-    let rows = [
+    let rows: &[&str] = &[
         // the sample fix is the origin
         "~0 pos0 $GPGGA,123519,4807.038,N,01131.000,E,1,08,0.9,545.4,M,46.9,M,,*47\n1000 pos0 L 1000 0\n2000 pos0 x\n\
          ~0~cycle 0 LLL\nt0 F 0 0 0 0\nt1 F 0 0 0 0\nt2 F 0 0 0 0\ncycle 1 LLL\nt0 F 0 0 0 0\nt1 F 0 0 0 0\nt2 F 0 0 0 0\ncycle 2 LLL\nt0 F -68360 -68360 -68360 -68360\nt1 F 0 0 0 0\nt2 F 0 0 0 0\nend 3\n",
@@ -55,7 +55,7 @@ fn fixes_are_read(rt: HostRuntime) -> Result<(), Fail> {
 /// Sentences and their damage.
 #[test]
 fn sentences_are_judged(rt: HostRuntime) -> Result<(), Fail> {
-    let rows = [
+    let rows: &[&str] = &[
         // another talker; a proprietary sentence; another formatter; none
         "~0 pos0 $GNGGA,123519,4807.048,N,01131.000,E,1,08,0.9,545.4,M,46.9,M,,*5E\n1000 pos0 $PGGGA,123519,4807.048,N,01131.000,E,1,08,0.9,545.4,M,46.9,M,,*40\n2000 pos0 $GPGLL,123519,4807.048,N,01131.000,E,1,08,0.9,545.4,M,46.9,M,,*46\n3000 pos0 $*00\n4000 pos0 $GGA,123519,4807.028,N,01131.000,E,1,08,0.9,545.4,M,46.9,M,,*51\n5000 pos0 x\n\
          ~0~cycle 0 LLL\nt0 F 0 0 0 0\nt1 F 0 0 0 0\nt2 F 0 0 0 0\ncycle 1 LLL\nt0 F -1266024 -1266024 -1266024 -1266024\nt1 F 0 0 0 0\nt2 F 0 0 0 0\ncycle 2 LLL\nt0 F -2433478 -2433478 -2433478 -2433478\nt1 F 0 0 0 0\nt2 F 0 0 0 0\ncycle 3 LLL\nt0 F -3506904 -3506904 -3506904 -3506904\nt1 F 0 0 0 0\nt2 F 0 0 0 0\ncycle 4 LLL\nt0 F -4490770 -4490770 -4490770 -4490770\nt1 F 0 0 0 0\nt2 F 0 0 0 0\ncycle 5 LLL\nt0 F -4490770 -4490770 -4490770 -4490770\nt1 F 0 0 0 0\nt2 F 0 0 0 0\nend 6\n",
@@ -88,7 +88,7 @@ fn sentences_are_judged(rt: HostRuntime) -> Result<(), Fail> {
 /// Plain places, and what comes on other wires.
 #[test]
 fn plain_lines_are_read(rt: HostRuntime) -> Result<(), Fail> {
-    let rows = [
+    let rows: &[&str] = &[
         // a damaged line after a good one leaves its reading
         "~0 pos0 L 2000 0\n1 pos0 $GPGGA,1\n2 pos0 L 1 2 3\n1000 pos0 L 0 0\n\
          ~0~cycle 0 LLL\nt0 F 0 0 0 0\nt1 F 0 0 0 0\nt2 F 0 0 0 0\ncycle 1 LLL\nt0 F -136720 -136720 -136720 -136720\nt1 F 0 0 0 0\nt2 F 0 0 0 0\nend 2\n",
@@ -117,7 +117,7 @@ fn plain_lines_are_read(rt: HostRuntime) -> Result<(), Fail> {
 /// Readings of several wires, and cycles without any.
 #[test]
 fn readings_are_fused(rt: HostRuntime) -> Result<(), Fail> {
-    let rows = [
+    let rows: &[&str] = &[
         // fixes and places of three wires: the middle, the mean, one
         "~0 pos0 $GPGGA,123519,4807.039,N,01131.000,E,1,08,0.9,545.4,M,46.9,M,,*46\n0 pos1 L 5000 5\n0 pos2 L -3 100\n1000 pos1 $GPGGA,123519,4807.038,N,01131.0011,E,1,08,0.9,545.4,M,46.9,M,,*77\n1000 pos2 L 7 8\n2000 pos2 L 5 5\n3000 pos0 L 5 5\n\
          ~0~cycle 0 LLL\nt0 F 0 0 0 0\nt1 F 0 0 0 0\nt2 F 0 0 0 0\ncycle 1 LLL\nt0 F -126602 -126602 -126602 -126602\nt1 F -342 -342 -342 -342\nt2 F 0 0 0 0\ncycle 2 LLL\nt0 F -243288 -243288 -243288 -243288\nt1 F -314 -314 -314 -314\nt2 F 0 0 0 0\ncycle 3 LLL\nt0 F -350571 -350571 -350571 -350571\nt1 F -289 -289 -289 -289\nt2 F 0 0 0 0\nend 4\n",

@@ -7,7 +7,7 @@ use std::test::Fail;
 /// The first faulty line of a script, and its kind.
 #[test]
 fn scripts_are_judged(rt: HostRuntime) -> Result<(), Fail> {
-    let rows = [
+    let rows: &[&str] = &[
         // script out of order
         "3 usual\n2 usual\n\
          ~0 pos0 L 1000 0\n0 pos1 L 1000 0\n0 pos2 L 1000 0\n1000 pos0 L 1000 0\n1000 pos1 L 1000 0\n1000 pos2 L 1000 0\n2000 pos0 L 1000 0\n2000 pos1 L 1000 0\n2000 pos2 L 1000 0\n\
@@ -90,7 +90,7 @@ fn scripts_are_judged(rt: HostRuntime) -> Result<(), Fail> {
 /// The first faulty line of a record and its kind, after the cycles before it.
 #[test]
 fn records_are_judged(rt: HostRuntime) -> Result<(), Fail> {
-    let rows = [
+    let rows: &[&str] = &[
         // long
         "~0 pos0 L 9 9\n0 pos1 L 9 77777777777777777777777777777777777777777777777777777777777777777777777777777777777777777777777777777777777777777777777777777777777777777777777777777777777777777777777777777777777777\n\
          ~7~fault record 2 long\n",

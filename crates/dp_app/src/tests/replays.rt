@@ -7,7 +7,7 @@ use std::test::Fail;
 /// Runs and orders, alone and in the usual order.
 #[test]
 fn usual_acts_are_played(rt: HostRuntime) -> Result<(), Fail> {
-    let rows = [
+    let rows: &[&str] = &[
         // nothing at all
         "~\
          ~0~end 0\n",
@@ -68,7 +68,7 @@ fn usual_acts_are_played(rt: HostRuntime) -> Result<(), Fail> {
 /// Cycles without two equal ballots: the force is held, and then zero.
 #[test]
 fn forces_are_held(rt: HostRuntime) -> Result<(), Fail> {
-    let rows = [
+    let rows: &[&str] = &[
         // held five times, zero, and fresh again
         "2 run 0\n2 run 1\n2 run 2\n3 run 0\n3 run 1\n3 run 2\n4 run 0\n4 run 1\n4 run 2\n5 run 0\n5 run 1\n5 run 2\n6 run 0\n6 run 1\n6 run 2\n7 run 0\n7 run 1\n7 run 2\n8 usual\n\
          ~0 pos0 L 1000 0\n1000 pos0 L 1000 0\n2000 pos0 L 1000 0\n3000 pos0 L 1000 0\n4000 pos0 L 1000 0\n5000 pos0 L 1000 0\n6000 pos0 L 1000 0\n7000 pos0 L 1000 0\n8000 pos0 L 1000 0\n9000 pos0 L 1000 0\n\
@@ -91,7 +91,7 @@ fn forces_are_held(rt: HostRuntime) -> Result<(), Fail> {
 /// Computers that say what they were not asked to.
 #[test]
 fn lies_are_outvoted(rt: HostRuntime) -> Result<(), Fail> {
-    let rows = [
+    let rows: &[&str] = &[
         // said force goes before the order of its computer
         "1 run 0\n1 run 1\n1 run 2\n1 say 1 0 999\n1 orders 0\n1 orders 1\n1 orders 2\n\
          ~0 pos0 L 1000 0\n0 pos1 L 1000 0\n0 pos2 L 1000 0\n1000 pos0 L 1000 0\n1000 pos1 L 1000 0\n1000 pos2 L 1000 0\n\
@@ -126,7 +126,7 @@ fn lies_are_outvoted(rt: HostRuntime) -> Result<(), Fail> {
 /// Computers that reckon from a wrong place.
 #[test]
 fn skewed_computers_are_played(rt: HostRuntime) -> Result<(), Fail> {
-    let rows = [
+    let rows: &[&str] = &[
         // skew of computer 1, constant at 0
         "1 skew 1 1000000000 0\n1 usual\n\
          ~0 pos0 L 0 0\n0 pos1 L 0 0\n0 pos2 L 0 0\n1000 pos0 L 0 0\n1000 pos1 L 0 0\n1000 pos2 L 0 0\n2000 pos0 L 0 0\n2000 pos1 L 0 0\n2000 pos2 L 0 0\n\
@@ -165,7 +165,7 @@ fn skewed_computers_are_played(rt: HostRuntime) -> Result<(), Fail> {
 /// Computers that were stopped.
 #[test]
 fn stopped_computers_are_played(rt: HostRuntime) -> Result<(), Fail> {
-    let rows = [
+    let rows: &[&str] = &[
         // stop of each in turn
         "0 usual\n0 stop 0\n1 usual\n1 stop 1\n2 usual\n2 stop 2\n\
          ~0 pos0 L 1000 0\n1000 pos0 L 1000 0\n2000 pos0 L 1000 0\n3000 pos0 L 1000 0\n\
@@ -188,7 +188,7 @@ fn stopped_computers_are_played(rt: HostRuntime) -> Result<(), Fail> {
 /// Computers that more than 16 frames wait for.
 #[test]
 fn overrun_computers_are_played(rt: HostRuntime) -> Result<(), Fail> {
-    let rows = [
+    let rows: &[&str] = &[
         // computer 2 is overrun at cycle 16
         "0 run 0\n0 run 1\n0 orders 0\n0 orders 1\n1 run 0\n1 run 1\n1 orders 0\n1 orders 1\n2 run 0\n2 run 1\n2 orders 0\n2 orders 1\n3 run 0\n3 run 1\n3 orders 0\n3 orders 1\n4 run 0\n4 run 1\n4 orders 0\n4 orders 1\n5 run 0\n5 run 1\n5 orders 0\n5 orders 1\n6 run 0\n6 run 1\n6 orders 0\n6 orders 1\n7 run 0\n7 run 1\n7 orders 0\n7 orders 1\n8 run 0\n8 run 1\n8 orders 0\n8 orders 1\n9 run 0\n9 run 1\n9 orders 0\n9 orders 1\n10 run 0\n10 run 1\n10 orders 0\n10 orders 1\n11 run 0\n11 run 1\n11 orders 0\n11 orders 1\n12 run 0\n12 run 1\n12 orders 0\n12 orders 1\n13 run 0\n13 run 1\n13 orders 0\n13 orders 1\n14 run 0\n14 run 1\n14 orders 0\n14 orders 1\n15 run 0\n15 run 1\n15 orders 0\n15 orders 1\n16 run 0\n16 run 1\n16 orders 0\n16 orders 1\n\
          ~0 pos0 L 1000 0\n0 pos1 L 1000 0\n0 pos2 L 1000 0\n1000 pos0 L 1000 0\n1000 pos1 L 1000 0\n1000 pos2 L 1000 0\n2000 pos0 L 1000 0\n2000 pos1 L 1000 0\n2000 pos2 L 1000 0\n3000 pos0 L 1000 0\n3000 pos1 L 1000 0\n3000 pos2 L 1000 0\n4000 pos0 L 1000 0\n4000 pos1 L 1000 0\n4000 pos2 L 1000 0\n5000 pos0 L 1000 0\n5000 pos1 L 1000 0\n5000 pos2 L 1000 0\n6000 pos0 L 1000 0\n6000 pos1 L 1000 0\n6000 pos2 L 1000 0\n7000 pos0 L 1000 0\n7000 pos1 L 1000 0\n7000 pos2 L 1000 0\n8000 pos0 L 1000 0\n8000 pos1 L 1000 0\n8000 pos2 L 1000 0\n9000 pos0 L 1000 0\n9000 pos1 L 1000 0\n9000 pos2 L 1000 0\n10000 pos0 L 1000 0\n10000 pos1 L 1000 0\n10000 pos2 L 1000 0\n11000 pos0 L 1000 0\n11000 pos1 L 1000 0\n11000 pos2 L 1000 0\n12000 pos0 L 1000 0\n12000 pos1 L 1000 0\n12000 pos2 L 1000 0\n13000 pos0 L 1000 0\n13000 pos1 L 1000 0\n13000 pos2 L 1000 0\n14000 pos0 L 1000 0\n14000 pos1 L 1000 0\n14000 pos2 L 1000 0\n15000 pos0 L 1000 0\n15000 pos1 L 1000 0\n15000 pos2 L 1000 0\n16000 pos0 L 1000 0\n16000 pos1 L 1000 0\n16000 pos2 L 1000 0\n\
@@ -215,7 +215,7 @@ fn overrun_computers_are_played(rt: HostRuntime) -> Result<(), Fail> {
 /// States that are told, lied about and taken, and new software: how a computer comes back.
 #[test]
 fn exchanged_states_are_played(rt: HostRuntime) -> Result<(), Fail> {
-    let rows = [
+    let rows: &[&str] = &[
         // a stopped computer comes back, with two frames waiting
         "1 stop 2\n1 usual\n2 restart 2\n2 usual\n3 orders 0\n4 tell 0 2\n4 tell 1 2\n4 run 0\n4 run 0\n4 run 1\n4 run 1\n4 run 2\n4 run 2\n4 orders 0\n4 orders 1\n4 orders 2\n\
          ~0 pos0 L 1000 0\n0 pos1 L 1000 0\n0 pos2 L 1000 0\n1000 pos0 L 1000 0\n1000 pos1 L 1000 0\n1000 pos2 L 1000 0\n2000 pos0 L 1000 0\n2000 pos1 L 1000 0\n2000 pos2 L 1000 0\n3000 pos0 L 1000 0\n3000 pos1 L 1000 0\n3000 pos2 L 1000 0\n4000 pos0 L 1000 0\n4000 pos1 L 1000 0\n4000 pos2 L 1000 0\n\
@@ -258,7 +258,7 @@ fn exchanged_states_are_played(rt: HostRuntime) -> Result<(), Fail> {
 /// A liar of each kind, and two one after another: every ballot is fresh, with the reference run's force.
 #[test]
 fn liars_of_each_kind_are_outvoted(rt: HostRuntime) -> Result<(), Fail> {
-    let rows = [
+    let rows: &[&str] = &[
         // computer 1 is skewed
         "1 skew 1 1000000000 0\n1 usual\n2 run 0\n2 run 2\n2 orders 0\n2 orders 2\n3 run 0\n3 run 2\n3 orders 0\n3 orders 2\n\
          ~0 pos0 L 1000 0\n0 pos1 L 1000 0\n0 pos2 L 1000 0\n1000 pos0 L 1000 0\n1000 pos1 L 1000 0\n1000 pos2 L 1000 0\n2000 pos0 L 1000 0\n2000 pos1 L 1000 0\n2000 pos2 L 1000 0\n3000 pos0 L 1000 0\n3000 pos1 L 1000 0\n3000 pos2 L 1000 0\n\

@@ -5,7 +5,7 @@ use super::*;
 fn trials_are_summed_up(rt: HostRuntime) -> Result<(), Fail> {
     let alloc = rt.alloc();
     let plant = text_of(alloc, S1)?;
-    let rows = [
+    let rows: &[&str] = &[
         "trial plant 0~0~cycles 3600\nfresh 21600\nheld 0\nzero 0\nsum 168461238\n",
         "trial plant 0000000001~0~cycles 3600\nfresh 21600\nheld 0\nzero 0\nsum 166467810\n",
         "trial plant 4294967295~0~cycles 3600\nfresh 21600\nheld 0\nzero 0\nsum 169583996\n",
@@ -38,7 +38,7 @@ fn trials_are_summed_up(rt: HostRuntime) -> Result<(), Fail> {
 #[test]
 fn a_record_is_made(rt: HostRuntime) -> Result<(), Fail> {
     let alloc = rt.alloc();
-    let rows = [
+    let rows: &[&str] = &[
         "make 0~0 pos0 L -477 -254\n0 pos1 L ~3599000 wind2 $WIMWV,045.0,R,07.0,M,A*16\n",
         "make 4294967295~0 pos0 L -173 -391\n0 pos1 L 135 365\n~,M,A*",
     ];
@@ -57,7 +57,7 @@ fn a_record_is_made(rt: HostRuntime) -> Result<(), Fail> {
 }
 
 /// What each sensor says once a second: one position in a sentence of 160 bytes.
-const WATCH: [&str; 9] = [
+const WATCH: &[&str] = &[
     "pos0 $GPGGA,123519,4807.0380012,N,01131.0000034,E,1,08,0.9,545.4,M,46.9,M,,000000000000000000000000000000000000000000000000000000000000000000000000000000000000000*73",
     "pos1 $GPGGA,123519,4807.038,N,01131.000,E,1,08,0.9,545.4,M,46.9,M,,*47",
     "pos2 $GPGGA,123519,4807.039,N,01131.001,E,2,08,0.9,545.4,M,46.9,M,,*44",

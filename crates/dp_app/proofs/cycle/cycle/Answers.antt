@@ -16,13 +16,13 @@ returns-clause-block c =
     let s = c.args.script.now in
     λ es r.
     let all = cycle_events p s f es in
-    let now = c.play_votes-ballots.ensures.represents es r in
-    let modes : c.modes.result ≡ mode 0 (history p all) ∷ mode 1 (history p all) ∷ mode 2 (history p all) ∷ [] =
-    c.modes.ensures all now
-    ∙ ap (λ (q : Plant). mode 0 (history q all) ∷ mode 1 (history q all) ∷ mode 2 (history q all) ∷ []) c.play_votes-ballots.ensures.plant in
+    let now = c.play_votes.ensures.represents es r in
+    let modes : c.modes-block.result ≡ mode 0 (history p all) ∷ mode 1 (history p all) ∷ mode 2 (history p all) ∷ [] =
+    c.modes-block.ensures all now
+    ∙ ap (λ (q : Plant). mode 0 (history q all) ∷ mode 1 (history q all) ∷ mode 2 (history q all) ∷ []) c.play_votes.ensures.plant in
     let told : c.alarms.result ≡ cycle_alarms 0 (history p all) ∷ cycle_alarms 1 (history p all) ∷ cycle_alarms 2 (history p all) ∷ [] =
     c.alarms.ensures all now
-    ∙ ap (λ (q : Plant). cycle_alarms 0 (history q all) ∷ cycle_alarms 1 (history q all) ∷ cycle_alarms 2 (history q all) ∷ []) c.play_votes-ballots.ensures.plant in
+    ∙ ap (λ (q : Plant). cycle_alarms 0 (history q all) ∷ cycle_alarms 1 (history q all) ∷ cycle_alarms 2 (history q all) ∷ []) c.play_votes.ensures.plant in
     c.write_block.ensures
-    ∙ ap block_text (block_is (voters p) f.cycle (history p all) c.modes.result _ _ c.agree.result modes
-    (c.play_votes-ballots.ensures.ballots es r) (c.held_all.ensures.held all now) (c.agree.ensures ∙ ap agreed told))
+    ∙ ap block_text (block_is (voters p) f.cycle (history p all) c.modes-block.result _ _ c.agree-block.result modes
+    (c.play_votes.ensures.ballots es r) (c.hold_all.ensures.held all now) (c.agree-block.ensures ∙ ap agreed told))

@@ -17,7 +17,7 @@ loop-k-init c = record {
   represents = λ es r. subst (λ (l : List Event). Represents l c.args.world.now) (sym (voted_none es)) r;
   ballots = λ es r. search rules;
   count = search rules;
-  plant = c.requires;
+  plant = c.requires.plant;
 }
 
 pub loop-k-preserved : goal.loop-k-preserved

@@ -20,6 +20,3 @@ returns-in-Err-clause-err g c = λ given.
     each_file (g.F.Shelf.files c.args.shelf.now) (λ told. IsPlantRefusal (text_named told name) c.in-Err.fault)
     (λ told. AsksByData (task_on (check name) told) (data_in (text_named told name)) (Err c.in-Err.fault))
     (λ told h. asks_refused (task_on (check name) told) (text_named told name) c.in-Err.fault h) (c.in-Err.ensures.err given)
-
-pub returns-in-Ok-clause-accepted : goal.returns-in-Ok-clause-accepted
-returns-in-Ok-clause-accepted g c = (c.in-Ok.plant.accepted, c.in-Ok.ensures.accepted)

@@ -4,7 +4,6 @@ use Rattle.dp_app.specs.declared.fault.Fault.TheVariants.{Read}
 use Rattle.dp_app.specs.Outcome.{AsksByData, task_on}
 use Rattle.dp_app.specs.PlantFiles.{IsPlantRefusal, data_in}
 use Rattle.dp_app.specs.Words.{replay}
-use Rattle.dp_app.proofs.AcceptedTasks.{accepted_as}
 use Rattle.dp_app.proofs.Asking.{asks_refused, each_file}
 use Rattle.dp_app.proofs.Gathering.{asks_bad_script, asks_played, record_left, script_failed}
 use Rattle.dp_app.proofs.inputs.gather_replay.Goals as goal
@@ -39,7 +38,3 @@ returns-in-Err-read_player-clause-read g c = λ file e.
     c.in-Ok.plant.plant c.in-Ok.ensures.files c.in-Ok.ensures.ok (g.F.Shelf.faults c.args.shelf.now) (g.F.Shelf.faults c.read_plant.new.shelf)
     (g.F.Shelf.faults c.read_player.new.shelf) file is c.in-Ok.ensures.none_falls
     (c.in-Err-read_player.ensures.failed (ap Err (same ∙ ap Read is)))
-
-pub returns-in-Ok-read_player-clause-accepted : goal.returns-in-Ok-read_player-clause-accepted
-returns-in-Ok-read_player-clause-accepted g c =
-    accepted_as c.in-Ok.plant.plant c.in-Ok-read_player.player.plant c.in-Ok.plant.accepted c.in-Ok.ensures.accepted c.in-Ok-read_player.ensures.plant

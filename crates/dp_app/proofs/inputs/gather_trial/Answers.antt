@@ -1,10 +1,9 @@
-use Rattle.std.proofs.Common.{Err, Ok, Result, ap, sym}
+use Rattle.std.proofs.Common.{Err, Ok, ap, sym}
 use Rattle.dp_plant.specs.declared.plant.Plant.{Plant}
 use Rattle.dp_shell.specs.Texts.{text_named}
-use Rattle.dp_app.specs.Outcome.{AsksByData, Task, play_made, task_on, to_trial}
+use Rattle.dp_app.specs.Outcome.{AsksByData, play_made, task_on, to_trial}
 use Rattle.dp_app.specs.PlantFiles.{IsPlantOf, IsPlantRefusal, data_in}
 use Rattle.dp_app.specs.Words.{trial}
-use Rattle.dp_app.proofs.AcceptedTasks.{accepted_as}
 use Rattle.dp_app.proofs.Asking.{asks_on, asks_refused, each_file}
 use Rattle.dp_app.proofs.inputs.gather_trial.Goals as goal
 
@@ -24,7 +23,3 @@ returns-in-Err-clause-err g c = λ given.
     each_file (g.F.Shelf.files c.args.shelf.now) (λ told. IsPlantRefusal (text_named told name) c.in-Err.fault)
     (λ told. AsksByData (task_on (trial name c.args.number) told) (data_in (text_named told name)) (Err c.in-Err.fault))
     (λ told h. asks_refused (task_on (trial name c.args.number) told) (text_named told name) c.in-Err.fault h) (c.in-Err.ensures.err given)
-
-pub returns-in-Ok-counting_player-clause-accepted : goal.returns-in-Ok-counting_player-clause-accepted
-returns-in-Ok-counting_player-clause-accepted g c =
-    accepted_as c.in-Ok.plant.plant c.in-Ok-counting_player.player.plant c.in-Ok.plant.accepted c.in-Ok.ensures.accepted c.in-Ok-counting_player.ensures.plant

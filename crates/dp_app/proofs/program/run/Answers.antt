@@ -6,10 +6,8 @@ use Rattle.dp_app.specs.declared.fault.Fault.{Fault}
 use Rattle.dp_app.specs.declared.fault.File.TheVariants.{Record}
 use Rattle.dp_app.specs.Causes.{ReadFailed, RecordFailed}
 use Rattle.dp_app.specs.declared.inputs.Task.{Task as Given}
-use Rattle.dp_app.specs.declared.inputs.Task.TheVariants as given
 use Rattle.dp_app.specs.Complete.{GivesNoFile}
-use Rattle.dp_app.specs.Given.{HasAcceptedPlant, LeavesRecord, task_of}
-use Rattle.dp_app.specs.Headline.{IsOnAcceptedPlant}
+use Rattle.dp_app.specs.Given.{LeavesRecord, task_of}
 use Rattle.dp_script.specs.Made.{made}
 use Rattle.dp_app.specs.Check.{check_text}
 use Rattle.dp_app.specs.Outcome.{Asks, Task, blocks_in, outcome_of, play_made, trial_text, to_check, to_make, to_trial}
@@ -17,7 +15,6 @@ use Rattle.dp_app.specs.Streaming.{task_of_player}
 use Rattle.dp_app.specs.Words.{command_in, files_read}
 use Rattle.dp_app.specs.Written.{HasWritten, NoReadFailed}
 use Rattle.dp_app.proofs.Asking.{each_file, of_asked}
-use Rattle.dp_app.proofs.AcceptedTasks.{for_each, replayed, tried}
 use Rattle.dp_app.proofs.Endings.{line_status, written_more}
 use Rattle.dp_app.proofs.Gathering.{of_each, record_failed, record_keeps, some_command}
 use Rattle.dp_app.proofs.Outcomes.{any_rose, refused_announced, refused_complete, refused_read, refused_written, status_known}
@@ -182,41 +179,6 @@ returns-in-Err-clause-read g c = λ e.
     let failed = ReadFailed files (g.F.Shelf.faults c.args.shelf.now) (g.F.Shelf.faults c.gather.new.shelf) (files_read (command_in (texts_of c.args.words.now))) in
     refused_read failed (g.K.Sink.taken c.args.out.now) (g.K.Sink.taken c.announce.new.out) c.announce.result c.in-Err.fault c.announce.ensures.ends
     (λ file is. c.in-Err.ensures.read file (ap Err is)) e
-
-pub returns-in-Ok-Replay-clause-accepted : goal.returns-in-Ok-Replay-clause-accepted
-returns-in-Ok-Replay-clause-accepted g c = λ is.
-    let files = g.F.Shelf.files c.args.shelf.now in
-    let i = c.in-Ok-Replay.inputs in
-    let asked : Files → Result Task Fault = λ told. task_of_player i.player i.record.now told in
-    let plant : HasAcceptedPlant (given.Replay i) = subst HasAcceptedPlant c.in-Ok-Replay.field-0-is c.in-Ok-Replay.ensures.accepted in
-    of_each files (command_in (texts_of c.args.words.now)) asked IsOnAcceptedPlant (subst (λ (t : Given). IfSome files (λ told. Asks (command_in (texts_of c.args.words.now)) told (task_of t told)))
-    c.in-Ok-Replay.field-0-is c.in-Ok-Replay.ensures.ok)
-    (for_each files (λ told. IsOnAcceptedPlant (asked told)) (λ told. replayed i.player i.record.now told plant))
-
-pub returns-in-Ok-Check-clause-accepted : goal.returns-in-Ok-Check-clause-accepted
-returns-in-Ok-Check-clause-accepted g c = λ is.
-    let plant : HasAcceptedPlant (given.Check c.in-Ok-Check.plant) = subst HasAcceptedPlant c.in-Ok-Check.field-0-is c.in-Ok-Check.ensures.accepted in
-    of_asked (g.F.Shelf.files c.args.shelf.now) (command_in (texts_of c.args.words.now)) (Ok (to_check c.in-Ok-Check.plant.plant)) IsOnAcceptedPlant
-    (subst (λ (t : Given). IfSome (g.F.Shelf.files c.args.shelf.now) (λ told. Asks (command_in (texts_of c.args.words.now)) told (task_of t told)))
-    c.in-Ok-Check.field-0-is c.in-Ok-Check.ensures.ok) plant
-
-pub returns-in-Ok-Make-clause-accepted : goal.returns-in-Ok-Make-clause-accepted
-returns-in-Ok-Make-clause-accepted g c = λ is.
-    of_asked (g.F.Shelf.files c.args.shelf.now) (command_in (texts_of c.args.words.now)) (Ok (to_make c.in-Ok-Make.number)) IsOnAcceptedPlant
-    (subst (λ (t : Given). IfSome (g.F.Shelf.files c.args.shelf.now) (λ told. Asks (command_in (texts_of c.args.words.now)) told (task_of t told)))
-    c.in-Ok-Make.field-0-is c.in-Ok-Make.ensures.ok) tt
-
-pub returns-in-Ok-Trial-clause-accepted : goal.returns-in-Ok-Trial-clause-accepted
-returns-in-Ok-Trial-clause-accepted g c = λ is.
-    let plant : HasAcceptedPlant (given.Trial c.in-Ok-Trial.inputs) = subst HasAcceptedPlant c.in-Ok-Trial.field-0-is c.in-Ok-Trial.ensures.accepted in
-    of_asked (g.F.Shelf.files c.args.shelf.now) (command_in (texts_of c.args.words.now)) (Ok (to_trial (play_made c.in-Ok-Trial.inputs.player.plant c.in-Ok-Trial.inputs.number))) IsOnAcceptedPlant
-    (subst (λ (t : Given). IfSome (g.F.Shelf.files c.args.shelf.now) (λ told. Asks (command_in (texts_of c.args.words.now)) told (task_of t told)))
-    c.in-Ok-Trial.field-0-is c.in-Ok-Trial.ensures.ok) (tried c.in-Ok-Trial.inputs.player.plant c.in-Ok-Trial.inputs.number plant)
-
-pub returns-in-Err-clause-accepted : goal.returns-in-Err-clause-accepted
-returns-in-Err-clause-accepted g c = λ is.
-    let e = line_status _ _ _ _ c.announce.result c.announce.ensures.ends is in
-    of_asked (g.F.Shelf.files c.args.shelf.now) (command_in (texts_of c.args.words.now)) (Err c.in-Err.fault) IsOnAcceptedPlant (c.in-Err.ensures.err (rw e at is)) tt
 
 -- ---- nothing comes between, and no file is read
 

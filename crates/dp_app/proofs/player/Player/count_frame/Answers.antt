@@ -1,6 +1,5 @@
-use Rattle.std.proofs.Common.{◌≡◌, false, ◌∷◌, ◌++◌, ◌*◌, ◌≤◌, ◌^◌, [], ℕ, List, Some, is_none, length, sym, ◌∙◌, ap, subst, refl, arith, rules}
+use Rattle.std.proofs.Common.{false, ◌∷◌, ◌++◌, ◌*◌, ◌≤◌, [], ℕ, List, is_none, length, sym, ◌∙◌, ap, subst, refl, arith, rules}
 use Rattle.std.specs.Io.KnownBytes.{Appends}
-use Rattle.dp_plant.specs.declared.voting.Ballot.{Ballot}
 use Rattle.dp_report.specs.declared.block.Block.{Block}
 use Rattle.dp_core.specs.History.{history}
 use Rattle.dp_app.specs.Acting.{cycle_events, play_events, voters}
@@ -11,8 +10,8 @@ use Rattle.dp_app.proofs.Showing.{shows_own}
 use Rattle.dp_app.proofs.Tallies.{ballots_at, blocks_length, some_tally, tally_next}
 use Rattle.dp_app.proofs.player.Player.count_frame.Goals as goal
 
-pub play_votes-ballots-requires-clause-next : goal.play_votes-ballots-requires-clause-next
-play_votes-ballots-requires-clause-next c =
+pub play_votes-requires-clause-next : goal.play_votes-requires-clause-next
+play_votes-requires-clause-next c =
     let x = c.args.self.now in
     c.requires.next ∙ sym (next_cycle x.plant x.script (is_none x.tally) x c.requires.playing.0 c.requires.playing.1)
 
@@ -38,12 +37,12 @@ returns-clause-shows c = λ taken fs.
     shows_own x _ taken taken fs (fs ++ f ∷ []) (λ start h.
     let es = play_events p s fs [] in
     let bs = blocks p s fs [] in
-    let told = ballots_at (voters p) f.cycle (history p (cycle_events p s f es)) ∙ sym (c.play_votes-ballots.ensures.ballots es h.frames.represents) ∙ sym c.deref.ensures.0 in
+    let told = ballots_at (voters p) f.cycle (history p (cycle_events p s f es)) ∙ sym (c.play_votes.ensures.ballots es h.frames.represents) ∙ sym c.deref.ensures.0 in
     let t = some_tally x.tally c.args.tally bs c.requires.counts h.frames.counted in
     let more = tally_next bs (block_of p f.cycle (cycle_events p s f es)) c.deref.result.now c.args.tally c.with.result told few t c.with.ensures.value c.with.ensures.within in
     record {
-      frames = played_more p s (is_none x.tally) x _ fs f h.frames refl refl (sym (ap is_none c.requires.counts)) c.play_votes-ballots.ensures.plant
-          (c.play_votes-ballots.ensures.represents es h.frames.represents) refl
+      frames = played_more p s (is_none x.tally) x _ fs f h.frames refl refl (sym (ap is_none c.requires.counts)) c.play_votes.ensures.plant
+          (c.play_votes.ensures.represents es h.frames.represents) refl
           (subst (λ (l : List Block). IsTallyOf l c.with.result) (sym (blocks_next p s fs f)) more);
       text = subst (λ (l : List ℕ). Appends start taken l) (text_same p s fs f (is_none x.tally) (ap is_none c.requires.counts)) h.text;
     })
@@ -59,11 +58,11 @@ returns-clause-playing c =
     let few : length c.deref.result.now ≤ 12 = search rules in
     let es = play_events p s fs [] in
     let bs = blocks p s fs [] in
-    let told = ballots_at (voters p) f.cycle (history p (cycle_events p s f es)) ∙ sym (c.play_votes-ballots.ensures.ballots es h.represents) ∙ sym c.deref.ensures.0 in
+    let told = ballots_at (voters p) f.cycle (history p (cycle_events p s f es)) ∙ sym (c.play_votes.ensures.ballots es h.represents) ∙ sym c.deref.ensures.0 in
     let t = some_tally x.tally c.args.tally bs c.requires.counts h.counted in
     let more = tally_next bs (block_of p f.cycle (cycle_events p s f es)) c.deref.result.now c.args.tally c.with.result told few t c.with.ensures.value c.with.ensures.within in (
       fs ++ f ∷ [],
-      played_more p s false x _ fs f h refl refl (sym (ap is_none c.requires.counts)) c.play_votes-ballots.ensures.plant
-          (c.play_votes-ballots.ensures.represents es h.represents) refl
+      played_more p s false x _ fs f h refl refl (sym (ap is_none c.requires.counts)) c.play_votes.ensures.plant
+          (c.play_votes.ensures.represents es h.represents) refl
           (subst (λ (l : List Block). IsTallyOf l c.with.result) (sym (blocks_next p s fs f)) more),
     )

@@ -1,4 +1,4 @@
-use Rattle.std.proofs.Common.{ap, rules, ℕ}
+use Rattle.std.proofs.Common.{ap, rules}
 use Rattle.dp_frame.specs.Feeds.{given}
 use Rattle.dp_app.proofs.Showing.{shows_nothing}
 use Rattle.dp_app.proofs.player.Player.play_feed.Goals as goal
