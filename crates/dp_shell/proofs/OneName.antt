@@ -1,12 +1,21 @@
--- What reads of one name leave of a shelf.
-use Rattle.std.specs.Prelude.{◌≡◌, ℕ, Bool, List, Option}
-use Rattle.dp_shell.specs.Faults.{NoneFalls, OthersStay}
+-- Reads of one name, one after another.
+use Rattle.std.proofs.Common.{◌≡◌, ℕ, ◌≤◌, Bool, List, Option, ap, ◌∙◌, refl, arith}
+use Rattle.dp_shell.specs.Reads.{ReadsOnly}
 use Rattle.dp_shell.specs.Texts.{Files}
 
--- texts and names stay, no number falls, and each other name that is counted apart keeps its own
-pub record ReadsOnly {S : Type 0} (texts : S → Option Files) (names : S → List ℕ → Bool)
-    (numbers : S → List ℕ → ℕ) (name : List ℕ) (old new : S) : Type 0 where
-  pub files : texts new ≡ texts old
-  pub apart : names new ≡ names old
-  pub others : OthersStay (names old) name (numbers old) (numbers new)
-  pub none_falls : NoneFalls (numbers old) (numbers new)
+pub reads_none : {S : Type 0} (texts : S → Option Files) (names : S → List ℕ → Bool) (numbers : S → List ℕ → ℕ) (name : List ℕ) (a : S) → ReadsOnly texts names numbers name a a
+reads_none texts names numbers name a = record {
+  files = refl;
+  apart = refl;
+  others = λ other is ne. refl;
+  none_falls = λ other. omega arith;
+}
+
+pub reads_more : {S : Type 0} (texts : S → Option Files) (names : S → List ℕ → Bool) (numbers : S → List ℕ → ℕ) (name : List ℕ) (a b c : S)
+    → ReadsOnly texts names numbers name a b → ReadsOnly texts names numbers name b c → ReadsOnly texts names numbers name a c
+reads_more texts names numbers name a b c first then = record {
+  files = then.files ∙ first.files;
+  apart = then.apart ∙ first.apart;
+  others = λ other is ne. then.others other (ap (λ (test : List ℕ → Bool). test other) first.apart ∙ is) ne ∙ first.others other is ne;
+  none_falls = λ other. omega (arith, first.none_falls other, then.none_falls other);
+}

@@ -8,6 +8,7 @@ pub mod Names
 pub mod Pieces
 pub mod PlainShelf
 pub mod PlainSink
+pub mod Reads
 pub mod Settling
 pub mod Shared
 pub mod StdSink
@@ -20,6 +21,7 @@ pub use Rattle.dp_shell.specs.Faults.{HasCause, HasWriteCause, NoneFalls, Others
 pub use Rattle.dp_shell.specs.MemoryFiles.{FitsShelf, all_differ, files_of, names_of}
 pub use Rattle.dp_shell.specs.Names.{counted, is_among, place_of, texts_of}
 pub use Rattle.dp_shell.specs.Pieces.{Continues, IsPieceWithin}
+pub use Rattle.dp_shell.specs.Reads.{ReadsOnly}
 pub use Rattle.dp_shell.specs.Settling.{settled}
 pub use Rattle.dp_shell.specs.Shared.{counted-shared, files-shared, missing-shared}
 pub use Rattle.dp_shell.specs.Taken.{AppendsCut, CutInLine, EndsWithLine}

@@ -1,7 +1,8 @@
 //! A text that is read piece by piece, as a stream.
 ghost use Rattle.std.specs.Prelude.{◌≡◌, ◌≤◌, ◌<◌, ℕ, List, length, min, IfOk};
-ghost use Rattle.dp_shell.specs.Faults.{HasCause, NoneFalls, OthersStay};
+ghost use Rattle.dp_shell.specs.Faults.{HasCause};
 ghost use Rattle.dp_shell.specs.Pieces.{Continues, IsPieceWithin};
+ghost use Rattle.dp_shell.specs.Reads.{ReadsOnly};
 ghost use Rattle.dp_shell.specs.Texts.{ReadsPrefix};
 
 use crate::{Failed, Shelf};
@@ -36,12 +37,8 @@ pub fn next_piece<F: Shelf>(
         → Continues (F.files shelf.old) name.now limit before into.new piece) }
 
     // Texts and names stay, no number falls, and each other name that has its own keeps it.
-    ensures files { F.files shelf.new ≡ F.files shelf.old }
-    ensures apart { F.apart shelf.new ≡ F.apart shelf.old }
     ensures cause { HasCause (F.faults shelf.old name.now) (F.faults shelf.new name.now) result }
-    ensures others { OthersStay (F.apart shelf.old) name.now (F.faults shelf.old)
-        (F.faults shelf.new) }
-    ensures none_falls { NoneFalls (F.faults shelf.old) (F.faults shelf.new) }
+    ensures reads { ReadsOnly F.files F.apart F.faults name.now shelf.old shelf.new }
 {
     let most = room_for(into.len(), limit - from);
     let count = shelf.read(name, from, &mut into[..most.max(1)])?;

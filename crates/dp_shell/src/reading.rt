@@ -1,5 +1,6 @@
 ghost use Rattle.std.specs.Prelude.{◌≡◌, ◌≤◌, ◌<◌, [], ℕ, length, take, vec_len, IfOk, IsErrOf};
-ghost use Rattle.dp_shell.specs.Faults.{NoneFalls, OthersStay, Rose};
+ghost use Rattle.dp_shell.specs.Faults.{Rose};
+ghost use Rattle.dp_shell.specs.Reads.{ReadsOnly};
 ghost use Rattle.dp_shell.specs.Texts.{ReadsWhole};
 
 use crate::{Piece, Shelf, next_piece};
@@ -42,11 +43,7 @@ pub fn read_whole<F: Shelf>(
         → Rose (F.faults shelf.old name.now) (F.faults shelf.new name.now) }
 
     // Whatever the answer, texts and names stay, no number falls, and each other name that has its own keeps it.
-    ensures files { F.files shelf.new ≡ F.files shelf.old }
-    ensures apart { F.apart shelf.new ≡ F.apart shelf.old }
-    ensures others { OthersStay (F.apart shelf.old) name.now (F.faults shelf.old)
-        (F.faults shelf.new) }
-    ensures none_falls { NoneFalls (F.faults shelf.old) (F.faults shelf.new) }
+    ensures reads { ReadsOnly F.files F.apart F.faults name.now shelf.old shelf.new }
 {
     let Ok(mut piece) = zeros(alloc, PIECE) else {
         return Err(ReadTrouble::Memory);
@@ -77,11 +74,7 @@ fn fill<F: Shelf>(
     ensures size { length text.new.items ≤ limit }
     ensures failed { IsErrOf result ReadTrouble.Failed
         → Rose (F.faults shelf.old name.now) (F.faults shelf.new name.now) }
-    ensures files { F.files shelf.new ≡ F.files shelf.old }
-    ensures apart { F.apart shelf.new ≡ F.apart shelf.old }
-    ensures others { OthersStay (F.apart shelf.old) name.now (F.faults shelf.old)
-        (F.faults shelf.new) }
-    ensures none_falls { NoneFalls (F.faults shelf.old) (F.faults shelf.new) }
+    ensures reads { ReadsOnly F.files F.apart F.faults name.now shelf.old shelf.new }
 {
     loop {
         match next_piece(shelf, name, text.len() as u64, limit as u64, piece) {

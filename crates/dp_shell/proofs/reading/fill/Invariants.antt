@@ -1,5 +1,5 @@
 use Rattle.std.proofs.Common.{◌-◌, ◌≤◌, length}
-use Rattle.dp_shell.proofs.OneName.{ReadsOnly}
+use Rattle.dp_shell.specs.Reads.{ReadsOnly}
 use Rattle.dp_shell.specs.Texts.{ReadsPrefix}
 use Rattle.dp_shell.proofs.reading.fill.Given as goal
 
