@@ -1,7 +1,7 @@
-ghost use Rattle.std.specs.Prelude.{◌≡◌, ◌<◌, ◌≤◌, ℕ, List, None, IfSome, IsOk, MatchResult, length, take};
+ghost use Rattle.std.specs.Prelude.{◌≡◌, ◌<◌, ◌≤◌, ℕ, List, None, IfOk, IfSome, IsOk, MatchResult, length, take};
 ghost use Rattle.std.specs.Option.{ForSome};
 ghost use Rattle.std.specs.Io.{ReadsAtMost};
-ghost use Rattle.dp_shell.specs.KeptFile.{file_at, next_read, next_read_after};
+ghost use Rattle.dp_shell.specs.KeptFile.{GaveFront, file_at, next_read, next_read_after};
 ghost use Rattle.dp_shell.specs.Faults.{HasCause, NoneFalls, OthersStay};
 ghost use Rattle.dp_shell.specs.Names.{counted, is_among, place_of, texts_of};
 ghost use Rattle.dp_shell.specs.Texts.{ReadsPart, untold};
@@ -96,6 +96,12 @@ impl<R: Files> Shelf for FileShelf<'_, R> {
             ≡ next_read_after (length self.old.words.now)
             (place_of (texts_of self.old.words.now) name.now) from n)
             (λ _. next_read self.new.kept ≡ None) }
+
+        // A file that is read on loses just the bytes that are answered, and none is answered only at its end.
+        ensures bytes { IfSome (file_at self.old.kept
+            (place_of (texts_of self.old.words.now) name.now) from) (λ before.
+            IfSome self.new.kept (λ after. IfOk result (λ n.
+            GaveFront (R.File.remaining before) (R.File.remaining after.file) n into.new))) }
     {
         let at = place(self.words, name);
         let file = file_at(self.kept.take(), at, from);
@@ -167,7 +173,11 @@ fn read_on<R: Files>(
     from: u64,
     into: &mut [u8],
 ) -> Option<(R::File, usize)>
-    ensures { IfSome result (λ read. read.1 ≤ length into.new) }
+    ensures bound { IfSome result (λ read. read.1 ≤ length into.new) }
+
+    // A file that is read on loses just the bytes that it gives, and gives none only at its end.
+    ensures bytes { IfSome kept (λ file. IfSome result (λ read.
+        GaveFront (R.File.remaining file) (R.File.remaining read.0) read.1 into.new)) }
 {
     let mut file = match kept {
         Some(file) => file,

@@ -1,4 +1,4 @@
-ghost use Rattle.std.specs.Prelude.{◌≡◌, ◌≤◌, ◌↔◌, ℕ, List, Some, IsErr, IsNone, IsTrue, length, if◌then◌else◌};
+ghost use Rattle.std.specs.Prelude.{◌≡◌, ◌≤◌, ◌↔◌, ℕ, List, Some, IsErr, IsNone, IsOk, IsTrue, length, if◌then◌else◌};
 ghost use Rattle.std.specs.Io.{ReadsAtMost};
 ghost use Rattle.dp_shell.specs.Faults.{HasCause, NoneFalls, OthersStay};
 ghost use Rattle.dp_shell.specs.MemoryFiles.{FitsShelf, files_of};
@@ -48,6 +48,9 @@ impl Shelf for PlainShelf {
 
         // It fails exactly for a name that is missing.
         ensures missing { IsErr result ↔ IsNone (text_named (files_on self.old) name.now) }
+
+        // It counts no good read.
+        ensures unfailed { IsOk result → self.new.missing ≡ self.old.missing }
     {
         match find(&self.files, name) {
             Some(text) => Ok(copy_part(text, from, usize::MAX, into)),

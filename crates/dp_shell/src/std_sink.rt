@@ -1,11 +1,12 @@
-ghost use Rattle.std.specs.Prelude.{◌≡◌, ◌<◌, None, length, IfOk, IsErrOf, IsOk};
+ghost use Rattle.std.specs.Prelude.{◌≡◌, ◌<◌, ◌≤◌, None, length, take, IfOk, IfSome, IsErrOf, IsOk};
 ghost use Rattle.std.specs.Io.{WritesAtMost};
-ghost use Rattle.std.specs.Io.KnownBytes.{WriteAppends};
+ghost use Rattle.std.specs.Io.KnownBytes.{Appends, WriteAppends};
 ghost use Rattle.dp_shell.specs.Faults.{HasWriteCause};
 
 use crate::settling::{one_more, settle, write_once};
 use crate::{Sink, Trouble};
 use std::io;
+use std::io::Write;
 
 /// Standard output. It tells nothing of what was taken, and never answers want of memory.
 #[derive(Drop)]
@@ -48,8 +49,7 @@ impl<R: Print> Sink for StdSink<'_, R> {
         ensures never { IsErrOf result Trouble.Memory → ⊥ }
         ensures unfailed { IsOk result → faults_of self.new ≡ faults_of self.old }
     {
-        let given = write_once(&mut io::writer(self.rt), piece);
-        match settle(given, !piece.is_empty()) {
+        match put(&mut io::writer(self.rt), piece) {
             Some(count) => Ok(count),
             None => {
                 self.faults = one_more(self.faults);
@@ -57,4 +57,18 @@ impl<R: Print> Sink for StdSink<'_, R> {
             }
         }
     }
+}
+
+/// Writes a piece once, and answers how many of its bytes the writer took; none where the write failed, or took nothing of a piece that
+/// has any.
+fn put<W: Write>(out: &mut W, piece: &[u8]) -> Option<usize>
+    ensures bound { IfSome result (λ n. n ≤ length piece.now) }
+    ensures some { 0 < length piece.now → IfSome result (λ n. 0 < n) }
+
+    // The writer took just these bytes of it.
+    ensures bytes { IfSome result (λ n. Appends (W.contents out.old) (W.contents out.new)
+        (take n piece.now)) }
+{
+    let given = write_once(out, piece);
+    settle(given, !piece.is_empty())
 }

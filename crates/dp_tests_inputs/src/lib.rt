@@ -32,4 +32,6 @@ mod sentence;
 #[cfg(test)]
 mod shell;
 #[cfg(test)]
+mod stream;
+#[cfg(test)]
 mod trig;
