@@ -15,11 +15,12 @@ use std::{fs, io};
 /// How many words are counted apart.
 const APART: usize = 8;
 
-/// Real files. It tells nothing of their content, and counts the failures of each of the first eight words, and those of all other
-/// names together.
+/// Real files. It tells nothing of their content, and counts the failures of each of the first
+/// eight words, and those of all other names together.
 ///
-/// The file of one of these words stays open after a good read, for the read that begins where it ended. So a text that is read piece
-/// by piece is one file's, whatever its name comes to mean meanwhile, and a pipe can be read.
+/// The file of one of these words stays open after a good read, for the read that begins where it
+/// ended. So a text that is read piece by piece is one file's, whatever its name comes to mean
+/// meanwhile, and a pipe can be read.
 #[derive(Drop)]
 pub struct FileShelf<'a, R: Files> {
     rt: &'a R,
@@ -59,7 +60,8 @@ impl<'a, R: Files> FileShelf<'a, R> {
         }
     }
 
-    /// How many reads of a name have failed, up to 2^64 - 1; all names that aren't counted apart share one number.
+    /// How many reads of a name have failed, up to 2^64 - 1; all names that aren't counted apart
+    /// share one number.
     pub fn failures(&self, name: &str) -> u64
         ensures { result ≡ ⟦<FileShelf<'a, R> as Shelf>⟧.faults self.now name.now }
     {
@@ -91,13 +93,15 @@ impl<R: Files> Shelf for FileShelf<'_, R> {
         // It counts no good read.
         ensures unfailed { IsOk result → self.new.counts ≡ self.old.counts }
 
-        // After a good read the file of a word stays open where that read ended, after a failed one none does.
+        // After a good read the file of a word stays open where that read ended, after a failed one
+        // none does.
         ensures kept { MatchResult result (λ n. next_read self.new.kept
             ≡ next_read_after (length self.old.words.now)
             (place_of (texts_of self.old.words.now) name.now) from n)
             (λ _. next_read self.new.kept ≡ None) }
 
-        // A file that is read on loses just the bytes that are answered, and none is answered only at its end.
+        // A file that is read on loses just the bytes that are answered, and none is answered only
+        // at its end.
         ensures bytes { IfSome (file_at self.old.kept
             (place_of (texts_of self.old.words.now) name.now) from) (λ before.
             IfSome self.new.kept (λ after. IfOk result (λ n.
@@ -147,7 +151,8 @@ fn file_at<F: Drop>(kept: Option<KeptFile<F>>, place: usize, from: u64) -> Optio
     }
 }
 
-/// A file of which so many bytes were read at an offset, to be read on where its place is below `apart`.
+/// A file of which so many bytes were read at an offset, to be read on where its place is below
+/// `apart`.
 fn keep<F: Drop>(
     file: F,
     apart: usize,
@@ -165,7 +170,8 @@ fn keep<F: Drop>(
     Some(KeptFile { file, place, next })
 }
 
-/// Reads bytes from an offset on, in a file that has come there or else in one that is opened, and answers the file with their count.
+/// Reads bytes from an offset on, in a file that has come there or else in one that is opened, and
+/// answers the file with their count.
 fn read_on<R: Files>(
     rt: &R,
     kept: Option<R::File>,
@@ -187,7 +193,8 @@ fn read_on<R: Files>(
     Some((file, count))
 }
 
-/// Opens a file, to be read from an offset on. At its start nothing is sought, since a pipe can't seek.
+/// Opens a file, to be read from an offset on. At its start nothing is sought, since a pipe can't
+/// seek.
 fn open_at<R: Files>(rt: &R, name: &str, from: u64) -> io::Result<R::File> {
     let mut file = fs::open(rt, name)?;
     if from > 0 {

@@ -1,18 +1,17 @@
 //! What the programs of this repository meet outside: named texts to read, and a sink to write to.
 //!
-//! A [`Shelf`] holds texts under names, and a [`Sink`] takes bytes. A generic function over them is proved against what the two
-//! traits promise, so its contract can say what was read and written, and that a fault is answered only where a failure was counted.
+//! A [`Shelf`] holds texts under names, and a [`Sink`] takes bytes. A generic function over them is
+//! proved against what the two traits promise, so its contract can say what was read and written,
+//! and that a fault is answered only where a failure was counted.
 //!
 //! - [`PlainShelf`] and [`PlainSink`] keep their bytes in memory and fail by no fault of their own.
 //! - [`MemoryShelf`] and [`MemorySink`] do the same and fail at the calls whose numbers they are given, so that a test can have each
-//!   read or write fail in turn.
 //! - [`FileShelf`] and [`StdSink`] are real files and standard output. They tell nothing of content: what a file holds, and what
-//!   becomes of the bytes written, is outside every proof. A file may be a pipe, and a call that a signal interrupts is tried again.
 //! - [`read_whole`] reads a text to its end or up to a limit of bytes, [`next_piece`] reads one as a stream, and [`write_all`] writes
-//!   a whole text.
 //!
-//! Failures are counted in a number that never falls and stays at 2^64 - 1 once it is there. `Failed` is answered only where the
-//! number of the name, or of the sink, rose in that call, or stands at 2^64 - 1. Want of memory is an answer of its own, and needs no cause.
+//! Failures are counted in a number that never falls and stays at 2^64 - 1 once it is there.
+//! `Failed` is answered only where the number of the name, or of the sink, rose in that call, or
+//! stands at 2^64 - 1. Want of memory is an answer of its own, and needs no cause.
 #![tactic(auto)]
 
 mod file_shelf;

@@ -9,8 +9,9 @@ ghost use Rattle.dp_shell.specs.Texts.{ReadsPart, count_given, is_named, text_na
 use crate::memory_files::{copy_part, find, place};
 use crate::{Failed, Shelf};
 
-/// Files in memory. A read fails exactly at the calls whose numbers were given, and for a name that is missing. Calls are counted
-/// from 1, and their number stays at 2^64 - 1 once it is there. A call copies all bytes that are left and fit, but a step at most.
+/// Files in memory. A read fails exactly at the calls whose numbers were given, and for a name that
+/// is missing. Calls are counted from 1, and their number stays at 2^64 - 1 once it is there. A
+/// call copies all bytes that are left and fit, but a step at most.
 #[derive(Drop)]
 pub struct MemoryShelf {
     files: Vec<(String, Vec<u8>)>,
@@ -27,7 +28,8 @@ pub struct MemoryShelf {
 impl MemoryShelf {
     ghost use Rattle.dp_shell.specs.MemoryShelf.{failing_calls, last_call, step_of};
 
-    /// A shelf of these files, whose names it counts apart, that fails at the calls of these numbers. No read has failed yet.
+    /// A shelf of these files, whose names it counts apart, that fails at the calls of these
+    /// numbers. No read has failed yet.
     pub fn new(files: Vec<(String, Vec<u8>)>, failing: Vec<u64>) -> Self
         requires { FitsShelf files.items }
         ensures files { ⟦<MemoryShelf as Shelf>⟧.files result ≡ Some (files_of files.items) }
@@ -81,7 +83,8 @@ impl Shelf for MemoryShelf {
             (faults_of self.new) }
         ensures none_falls { NoneFalls (faults_of self.old) (faults_of self.new) }
 
-        // It fails exactly at the calls of these numbers and for a name that is missing, and counts no other call.
+        // It fails exactly at the calls of these numbers and for a name that is missing, and counts
+        // no other call.
         ensures failing { IsErr result ↔
             (Contains (failing_calls self.old) (next_call (last_call self.old))
             ⊎ IsNone (text_named (files_on self.old) name.now)) }

@@ -7,8 +7,8 @@ ghost use Rattle.dp_shell.specs.Faults.{HasWriteCause};
 use crate::{Sink, Trouble};
 use std::alloc::Global;
 
-/// Bytes in memory. A write fails exactly at the calls whose numbers were given. Calls are counted from 1, and their number stays at
-/// 2^64 - 1 once it is there.
+/// Bytes in memory. A write fails exactly at the calls whose numbers were given. Calls are counted
+/// from 1, and their number stays at 2^64 - 1 once it is there.
 #[derive(Drop)]
 pub struct MemorySink {
     bytes: Vec<u8>,

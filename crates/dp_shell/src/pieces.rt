@@ -18,8 +18,8 @@ pub enum Piece {
     Cut,
 }
 
-/// Reads what comes next of a named text from offset `from` on, up to a limit of bytes, and copies it to the front of `into`. It
-/// reads no other name.
+/// Reads what comes next of a named text from offset `from` on, up to a limit of bytes, and copies
+/// it to the front of `into`. It reads no other name.
 pub fn next_piece<F: Shelf>(
     shelf: &mut F,
     name: &str,

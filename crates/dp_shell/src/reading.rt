@@ -42,7 +42,8 @@ pub fn read_whole<F: Shelf>(
     ensures failed { IsErrOf result ReadTrouble.Failed
         → Rose (F.faults shelf.old name.now) (F.faults shelf.new name.now) }
 
-    // Whatever the answer, texts and names stay, no number falls, and each other name that has its own keeps it.
+    // Whatever the answer, texts and names stay, no number falls, and each other name that has its
+    // own keeps it.
     ensures reads { ReadsOnly F.files F.apart F.faults name.now shelf.old shelf.new }
 {
     let Ok(mut piece) = zeros(alloc, PIECE) else {
@@ -60,7 +61,8 @@ fn zeros(alloc: Global, count: usize) -> Result<Vec<u8>, AllocError>
     vec![in alloc; 0u8; count]
 }
 
-/// Reads a named text piece by piece, to its end or up to a limit of bytes, and answers whether it passes this limit.
+/// Reads a named text piece by piece, to its end or up to a limit of bytes, and answers whether it
+/// passes this limit.
 fn fill<F: Shelf>(
     shelf: &mut F,
     name: &str,

@@ -38,7 +38,8 @@ pub(crate) fn write_once<W: Write>(out: &mut W, piece: &[u8]) -> io::Result<usiz
     Err(io::Error::from(ErrorKind::TimedOut))
 }
 
-/// The count that a call of the system gave; none where it failed, or gave nothing where some was due.
+/// The count that a call of the system gave; none where it failed, or gave nothing where some was
+/// due.
 pub(crate) fn settle(given: io::Result<usize>, is_due: bool) -> Option<usize>
     ensures { result ≡ settled given is_due }
 {

@@ -18,10 +18,12 @@ pub trait Shelf {
     /// How often reads of a name have failed.
     ghost faults: { Self → List ℕ → ℕ };
 
-    /// Copies bytes of the named text from offset `from` on to the front of `into`, and answers how many.
+    /// Copies bytes of the named text from offset `from` on to the front of `into`, and answers how
+    /// many.
     ///
-    /// Where the texts are told, 0 for a non-empty `into` means that `from` is at or past the end, and a name that isn't there is a
-    /// failure. What `into` holds past the copied bytes, and after a failure, is left open.
+    /// Where the texts are told, 0 for a non-empty `into` means that `from` is at or past the end,
+    /// and a name that isn't there is a failure. What `into` holds past the copied bytes, and after
+    /// a failure, is left open.
     fn read(&mut self, name: &str, from: u64, into: &mut [u8]) -> Result<usize, Failed>
         ensures bound { ReadsAtMost result into.new }
         ensures part { ReadsPart (files self.old) name.now from result into.new }

@@ -20,8 +20,8 @@ pub trait Sink {
     /// How often a write has failed.
     ghost faults: { Self → ℕ };
 
-    /// Takes a prefix of the piece, and answers its length: at least one byte of a piece that has any. After either trouble nothing
-    /// of the piece was taken.
+    /// Takes a prefix of the piece, and answers its length: at least one byte of a piece that has
+    /// any. After either trouble nothing of the piece was taken.
     fn write(&mut self, piece: &[u8]) -> Result<usize, Trouble>
         ensures bound { WritesAtMost result piece.now }
         ensures some { 0 < length piece.now → IfOk result (λ n. 0 < n) }

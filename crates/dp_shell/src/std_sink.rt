@@ -59,8 +59,8 @@ impl<R: Print> Sink for StdSink<'_, R> {
     }
 }
 
-/// Writes a piece once, and answers how many of its bytes the writer took; none where the write failed, or took nothing of a piece that
-/// has any.
+/// Writes a piece once, and answers how many of its bytes the writer took; none where the write
+/// failed, or took nothing of a piece that has any.
 fn put<W: Write>(out: &mut W, piece: &[u8]) -> Option<usize>
     ensures bound { IfSome result (λ n. n ≤ length piece.now) }
     ensures some { 0 < length piece.now → IfSome result (λ n. 0 < n) }

@@ -34,8 +34,8 @@ fn shelf_of(
     Ok(MemoryShelf::in_steps(files, failing, step))
 }
 
-/// Reads the record `r` of a shelf to its end: the cycles of its frames, each with how many places it has, how often a read failed, and
-/// how it ended.
+/// Reads the record `r` of a shelf to its end: the cycles of its frames, each with how many places
+/// it has, how often a read failed, and how it ended.
 #[tactic(auto, using(dp_plant::proofs::PlantFacts::plant_facts))]
 fn told<F: Shelf>(
     rt: &impl Abort,
