@@ -4,3 +4,4 @@ pub mod Forces
 pub mod Accepting
 pub mod KeptCases
 pub mod ForceLimits
+pub mod Moments

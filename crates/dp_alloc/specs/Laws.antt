@@ -1,8 +1,10 @@
 -- The laws of forces.
-use Rattle.std.specs.Prelude.{◌≡◌, ℕ, List, ℤ, pos, Some, None, slice_get}
+use Rattle.std.specs.Prelude.{◌≡◌, ℕ, List, [], ◌∷◌, ℤ, pos, ◌+ℤ◌, ◌-ℤ◌, ◌*ℤ◌, Some, None, slice_get}
 use Rattle.dp_plant.specs.Cases.{IsInBox, box_of, case_of}
+use Rattle.dp_plant.specs.Vectors.{entry}
 use Rattle.dp_plant.specs.declared.plant.Plant.{Plant}
 use Rattle.dp_plant.specs.declared.thrusters.Thruster.{Thruster}
+use Rattle.dp_alloc.specs.Balance.{effect_at}
 use Rattle.dp_alloc.specs.Conditions.{limits_of}
 use Rattle.dp_alloc.specs.Ranges.{IsWithinLimits}
 use Rattle.dp_alloc.specs.Refusals.{AreAccepted}
@@ -25,3 +27,17 @@ ForcesAreWithinLimits = (p : Plant) → AreAccepted p → (lost : ℕ) (demand :
     → IsInBox (box_of (case_of p lost)) demand → (k : ℕ) (f : ℤ)
     → slice_get (forces_of p.thrusters.items (case_of p lost) demand) k ≡ Some f
     → IsForceWithin p lost k f
+
+-- two coordinates turned by a pair, which is the cosine and the sine of an angle times a length
+abbrev pub turned : ℤ × ℤ → ℤ → ℤ → ℤ × ℤ
+turned turn x y = (turn.0 *ℤ x -ℤ turn.1 *ℤ y, turn.0 *ℤ y +ℤ turn.1 *ℤ x)
+
+-- a thruster's turning moment at an arm so far ahead and so far to starboard
+abbrev pub moment_at : ℤ × ℤ → ℤ × ℤ → ℤ
+moment_at direction arm = entry (effect_at direction (arm.0 ∷ arm.1 ∷ [])) 2
+
+-- turning arm and direction alike leaves the moment as it is, but for the square of the length
+abbrev pub MomentsTurnAlong : Type 0
+MomentsTurnAlong = (turn direction : ℤ × ℤ) (ahead starboard : ℤ)
+    → moment_at (turned turn direction.0 direction.1) (turned turn ahead starboard)
+    ≡ (turn.0 *ℤ turn.0 +ℤ turn.1 *ℤ turn.1) *ℤ moment_at direction (ahead, starboard)

@@ -12,4 +12,4 @@ pub use Rattle.dp_alloc.specs.Ranges.{IsDemandWithin, IsWithinLimits}
 pub use Rattle.dp_alloc.specs.Conditions.{case_fault, limits_of}
 pub use Rattle.dp_alloc.specs.Refusals.{AreAccepted, IsCaseOf, first_refused}
 pub use Rattle.dp_alloc.specs.Cases.{CasesValue, case_in, cases_of}
-pub use Rattle.dp_alloc.specs.Laws.{ForcesAreWithinLimits, IsForceWithin}
+pub use Rattle.dp_alloc.specs.Laws.{ForcesAreWithinLimits, IsForceWithin, MomentsTurnAlong}
