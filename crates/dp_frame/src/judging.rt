@@ -4,7 +4,7 @@ ghost use Rattle.dp_frame.specs.{IsJudgedWithin, IsReadable, IsWire, judge, judg
 
 use crate::LineFault;
 use crate::entry::{Entry, Judged};
-use crate::sensing::content;
+use crate::contents::content;
 use crate::settings::Settings;
 use crate::wires::wire;
 use dp_plant::Wire;

@@ -52,7 +52,7 @@ pub mod laws;
 mod lines;
 mod origin;
 mod progress;
-mod sensing;
+mod contents;
 mod settings;
 mod wires;
 

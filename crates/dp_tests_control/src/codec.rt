@@ -7,7 +7,7 @@ use crate::samples::{accepted, heard};
 use arrayvec::ArrayVec;
 use dp_codec::{NotState, read_state, write_at, write_state};
 use dp_machine::Machine;
-use dp_plant::samples::{S1, S2};
+use dp_test_rows::samples::{S1, S2};
 use dp_plant::{Frame, Place};
 use dp_test_rows::{cut, natural, plant_with};
 use std::alloc::Global;

@@ -1,6 +1,6 @@
 //! Sample plant files that are hurt in one place, each with its answer.
 
-use dp_plant::samples::{S1, S2};
+use dp_test_rows::samples::{S1, S2};
 use dp_plant::{PlantFault, plant_of};
 use dp_test_rows::cut;
 use std::alloc::{AllocError, Global};
