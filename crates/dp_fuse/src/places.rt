@@ -78,7 +78,6 @@ fn fused_by(a: Option<WeightedPlace>, b: Option<WeightedPlace>, c: Option<Weight
 }
 
 /// Of three places, in each coordinate the middle.
-#[tactic(auto, using(dp_fixed::proofs::Clamps::middle_small))]
 fn middle_place(a: Place, b: Place, c: Place) -> Place
     requires first { IsMeasuredPlace a }
     requires second { IsMeasuredPlace b }

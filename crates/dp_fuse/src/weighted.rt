@@ -14,7 +14,6 @@ pub struct Weighted {
 }
 
 /// Of three the middle, of two the weighted mean rounded down, of one itself.
-#[tactic(auto, using(dp_fixed::proofs::Clamps::middle_small))]
 pub(crate) fn fuse(a: Option<Weighted>, b: Option<Weighted>, c: Option<Weighted>) -> Option<i64>
     requires first { IfSome a IsWeighted }
     requires second { IfSome b IsWeighted }
