@@ -66,10 +66,10 @@
 mod act;
 mod command;
 mod draft;
-mod instruction;
 mod fault;
 mod generator;
 mod hexadecimal;
+mod instruction;
 pub mod laws;
 mod made_line;
 mod maker;
