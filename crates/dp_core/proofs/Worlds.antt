@@ -10,9 +10,10 @@ use Rattle.dp_codec.specs.Spelling.{IsSoftware, state_read}
 use Rattle.dp_exchange.specs.Offers.{told_state}
 use Rattle.dp_exchange.specs.declared.answers.Offer.{Offer}
 use Rattle.dp_machine.specs.declared.state.State.{State}
-use Rattle.dp_core.proofs.Computers.{IsNothing, mode_of-control, computer-first, computer-wire, computer-kept, computer-run, computer-skew, computer-stop, wire_answer-represents, order-nothing, run-other, run_answer-represents, say-nothing, skew-other, skew_answer-represents, stop-other, vote-nothing, wire-cycles}
+use Rattle.dp_exchange.proofs.Counts.{mode_of-control}
+use Rattle.dp_core.proofs.Computers.{IsNothing, computer-first, computer-wire, computer-kept, computer-run, computer-skew, computer-stop, wire_answer-represents, order-nothing, run-other, run_answer-represents, say-nothing, skew-other, skew_answer-represents, stop-other, vote-nothing, wire-cycles}
 use Rattle.dp_core.proofs.Exchanges.{computer-lie, computer-restart, computer-tell, computer-upgrade, lie-other, lie-read, offer_answer-represents, restart-other, tell-answer-represents, tell-other, upgrade-other}
-use Rattle.dp_core.proofs.Lists.{below-get, changed-alike, changed-at, changed-length, changed-read, changed-same, get-below, map-at, map-length, read-at, three-of}
+use Rattle.dp_core.proofs.Lists.{below-get, changed-alike, changed-each, changed-length, changed-read, changed-same, get-below, map-at, map-length, read-at, three-of}
 use Rattle.dp_core.proofs.Moments.{moment}
 use Rattle.dp_core.proofs.Trajectories.{frames-kept, within}
 use Rattle.dp_core.proofs.Voters.{IsNoVote, IsOrderOf-order, IsOrderOf-say, answer-represents, ballot-represents, fresh_is_last, voter-begun, voter-first, voter-kept, voter-ordered, voter-voted}
@@ -61,15 +62,11 @@ module _ (es : List Event) (w : WorldState) (e : Event) (r : Represents es w) wh
       → ((x : ComputerState) → ComputerRepresents w.plant k (history w.plant es) x → ComputerRepresents w.plant k (moment w.plant (history w.plant es) e ∷ history w.plant es) (change x))
       → ((j : ℕ) → eqb k j ≡ false → IsNothing j (moment w.plant (history w.plant es) e))
       → (c : ℕ) (x : ComputerState) → slice_get (change_at w.computers k change) c ≡ Some x → ComputerRepresents w.plant c (moment w.plant (history w.plant es) e ∷ history w.plant es) x
-  computers_changed k change own others c x at =
+  computers_changed k change own others =
       let h = history w.plant es in
       let m = moment w.plant h e in
-      elim (changed-at w.computers k c change x at) [
-        | inl u ↦ (
-            let t : ComputerRepresents w.plant k (m ∷ h) x = subst (ComputerRepresents w.plant k (m ∷ h)) u.1.is (own u.1.before (r.computers k u.1.before u.1.stood)) in
-            subst (λ j. ComputerRepresents w.plant j (m ∷ h) x) (sym u.0) t)
-        | inr u ↦ computer-kept w.plant c m h x (others c (ne_eqb k c (λ q. u.0 (sym q)))) (within w.plant es) (r.computers c x u.1)
-      ]
+      changed-each (λ c x. ComputerRepresents w.plant c h x) (λ c x. ComputerRepresents w.plant c (m ∷ h) x) w.computers k change own
+      (λ c x n s. computer-kept w.plant c m h x (others c (ne_eqb k c (λ q. n (sym q)))) (within w.plant es) s) r.computers
 
   computers_kept : ((j : ℕ) → IsNothing j (moment w.plant (history w.plant es) e)) → (c : ℕ) (x : ComputerState) → slice_get w.computers c ≡ Some x → ComputerRepresents w.plant c (moment w.plant (history w.plant es) e ∷ history w.plant es) x
   computers_kept all c x at = computer-kept w.plant c (moment w.plant (history w.plant es) e) (history w.plant es) x (all c) (within w.plant es) (r.computers c x at)
@@ -78,15 +75,11 @@ module _ (es : List Event) (w : WorldState) (e : Event) (r : Represents es w) wh
       → ((v : VoterState) → VoterRepresents w.plant k (history w.plant es) v → VoterRepresents w.plant k (moment w.plant (history w.plant es) e ∷ history w.plant es) (change v))
       → ((j : ℕ) → (j ≡ k → ⊥) → IsNoVote j (moment w.plant (history w.plant es) e))
       → (j : ℕ) (v : VoterState) → slice_get (change_at w.voters k change) j ≡ Some v → VoterRepresents w.plant j (moment w.plant (history w.plant es) e ∷ history w.plant es) v
-  voters_changed k change own others j v at =
+  voters_changed k change own others =
       let h = history w.plant es in
       let m = moment w.plant h e in
-      elim (changed-at w.voters k j change v at) [
-        | inl u ↦ (
-            let t : VoterRepresents w.plant k (m ∷ h) v = subst (VoterRepresents w.plant k (m ∷ h)) u.1.is (own u.1.before (r.voters k u.1.before u.1.stood)) in
-            subst (λ i. VoterRepresents w.plant i (m ∷ h) v) (sym u.0) t)
-        | inr u ↦ voter-kept w.plant j m h v (others j u.0) (r.voters j v u.1)
-      ]
+      changed-each (λ j v. VoterRepresents w.plant j h v) (λ j v. VoterRepresents w.plant j (m ∷ h) v) w.voters k change own
+      (λ j v n s. voter-kept w.plant j m h v (others j n) s) r.voters
 
   voters_kept : ((j : ℕ) → IsNoVote j (moment w.plant (history w.plant es) e)) → (k : ℕ) (v : VoterState) → slice_get w.voters k ≡ Some v → VoterRepresents w.plant k (moment w.plant (history w.plant es) e ∷ history w.plant es) v
   voters_kept all k v at = voter-kept w.plant k (moment w.plant (history w.plant es) e) (history w.plant es) v (all k) (r.voters k v at)
