@@ -1,6 +1,6 @@
 use super::*;
-use dp_plant::samples::{S1, text_of};
 use dp_shell::{MemoryShelf, MemorySink, fits_shelf};
+use dp_test_rows::samples::{S1, text_of};
 use std::process::Abort;
 use std::test::Fail;
 

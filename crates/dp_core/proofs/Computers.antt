@@ -10,6 +10,7 @@ use Rattle.dp_machine.specs.Machine.{one_more}
 use Rattle.dp_machine.specs.Run.{own_setpoints}
 use Rattle.dp_machine.specs.Step.{first_state, rest_in, step_of}
 use Rattle.dp_machine.specs.declared.state.State.{State}
+use Rattle.dp_exchange.proofs.Counts.{mode_of-control}
 use Rattle.dp_core.proofs.Cycles.{run_on-empty}
 use Rattle.dp_core.proofs.Moments.{IsSkew-from_skew, moment, run-no_base, run-no_break}
 use Rattle.dp_core.proofs.Searches.{held_offer-gone, held_offer-kept, last_issue-broken, last_issue-quiet, last_issue-run, mode-broken, mode-quiet, no_base-parts, software-kept, software-quiet, steps-quiet, steps-run}
@@ -43,11 +44,6 @@ control-same Off s t e = refl
 -- where the mode stays, and the state of a live one
 pub control-kept : (x : Control) (m n : Mode) (s t : State) → n ≡ m → (m ≡ Live → t ≡ s) → x ≡ control_in m s → x ≡ control_in n t
 control-kept x m n s t same e is = is ∙ (control-same m s t (λ l. sym (e l)) ∙ ap (λ k. control_in k t) (sym same))
-
-pub mode_of-control : (m : Mode) (s : State) → mode_of (control_in m s) ≡ m
-mode_of-control Live s = refl
-mode_of-control Aligning s = refl
-mode_of-control Off s = refl
 
 -- ---- a new computer
 

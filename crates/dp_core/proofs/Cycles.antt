@@ -6,10 +6,9 @@ use Rattle.dp_machine.specs.declared.issue.Issue.{Issue}
 use Rattle.dp_machine.specs.declared.state.State.{State}
 use Rattle.dp_machine.specs.Reference.{reference_issue, reference_state}
 use Rattle.dp_machine.specs.Run.{Setpoints, cycle_at, issue_after, run_on, run_over}
-use Rattle.dp_machine.specs.Step.{Step, first_state, rest_in, step_at}
+use Rattle.dp_machine.specs.Step.{Step, first_state, step_at}
 use Rattle.dp_plant.specs.declared.frames.Frame.{Frame}
 use Rattle.dp_plant.specs.declared.limits.Setpoint.{Setpoint}
-use Rattle.dp_plant.specs.declared.place.Place.{Place}
 use Rattle.dp_plant.specs.declared.plant.Plant.{Plant}
 
 pub slice_get-below : {A : Type 0} (xs : List A) (n : ℕ) (x : A) → slice_get xs n ≡ Some x → n < length xs
@@ -36,14 +35,6 @@ take-one_more zero (y ∷ ys) x e = cc
 take-one_more (suc n) (y ∷ ys) x e = ap (λ zs. y ∷ zs) (take-one_more n ys x e)
 
 -- ---- one cycle
-
-pub first-count : (p : Plant) → (first_state p).count ≡ 0
-unfolding first_state
-first-count p = refl
-
-pub rest-count : (s : State) (at : Place) → (rest_in s at).count ≡ s.count
-unfolding rest_in
-rest-count s at = refl
 
 -- what one cycle gives: the issue of that cycle, and the state of the next
 pub record IsCycle (s : State) (t : Step) : Type 0 where

@@ -1,8 +1,8 @@
 -- Where no computer's name was used for a force, what a voter holds of a computer is of its own trajectory.
-use Rattle.std.proofs.Common.{Bool, List, None, Some, [], ap, false, if◌then◌else◌, inl, inr, refl, suc, true, ℕ, ℤ, ◌&&◌, ◌||◌, ◌∙◌, ◌∷◌, ◌≡◌, length}
+use Rattle.std.proofs.Common.{Bool, List, None, Some, [], ap, false, if◌then◌else◌, inl, inr, refl, subst, suc, true, ℕ, ℤ, ◌&&◌, ◌||◌, ◌∙◌, ◌∷◌, ◌≡◌, length}
 use Rattle.std.proofs.lemmas.Bool.{and_parts, or_parts}
 use Rattle.dp_core.proofs.Moments.{IsTaken-from_order, moment}
-use Rattle.dp_core.proofs.OwnForces.{last_issue-own}
+use Rattle.dp_core.proofs.OwnForces.{issue-own_force}
 use Rattle.dp_core.proofs.Soundness.{no_frame-no_wire}
 use Rattle.dp_core.proofs.Trajectories.{frames-kept}
 use Rattle.dp_core.specs.History.{history, seen_of}
@@ -44,20 +44,7 @@ taken-own p k a e es f o unsaid said =
     let same : t.0.force ≡ f = (let says = t.1.says in let it = rw says at said in cc) in
     elim t.1.from_issue [
       | inl lies ↦ (let order = (and_parts (is_order a k e) (saw_taken (seen_of p h e)) o).0 in let say = say-of_fault k a e order lies in absurd cc)
-      | inr x ↦ (
-          let own = last_issue-own p a es x.issue x.is in
-          record {
-            later = own.later;
-            earlier = own.earlier;
-            parts = own.parts;
-            live = own.run.live;
-            frame = own.run.frame;
-            waited = own.run.waited;
-            issue = x.issue;
-            issued = own.run.issued;
-            of_cycle = t.1.now ∙ ap suc x.cycle;
-            is = x.force ∙ ap Some same;
-          })
+      | inr x ↦ subst (IsOwnForce p k a es) same (issue-own_force p k a es t.0 x t.1.now)
     ]
 
 -- by whether the newest event begins a cycle, and whether it is an order that was taken

@@ -14,6 +14,7 @@ mod HeldForces
 mod Lists
 mod InStep
 mod Worlds
+mod OneComputer
 mod Tells
 pub mod HistoryLemmas
 pub mod VoteLemmas

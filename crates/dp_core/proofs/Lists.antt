@@ -50,6 +50,14 @@ put-at xs k j change y (Some x) n e = elim (set-at xs k j (change x) y e) [
 pub changed-at : {A : Type 0} (xs : List A) (k j : ℕ) (change : A → A) (y : A) → slice_get (change_at xs k change) j ≡ Some y → ((j ≡ k) × IsChanged xs k change y) ⊎ ((j ≡ k → ⊥) × (slice_get xs j ≡ Some y))
 changed-at xs k j change y e = put-at xs k j change y (slice_get xs k) refl e
 
+-- one of them changes, and of each of them something else holds then
+pub changed-each : {A : Type 0} (P Q : ℕ → A → Type 0) (xs : List A) (k : ℕ) (change : A → A) → ((x : A) → P k x → Q k (change x)) → ((j : ℕ) (x : A) → (j ≡ k → ⊥) → P j x → Q j x)
+    → ((j : ℕ) (x : A) → slice_get xs j ≡ Some x → P j x) → (j : ℕ) (x : A) → slice_get (change_at xs k change) j ≡ Some x → Q j x
+changed-each P Q xs k change own others each j x at = elim (changed-at xs k j change x at) [
+  | inl u ↦ subst (λ i. Q i x) (sym u.0) (subst (Q k) u.1.is (own u.1.before (each k u.1.before u.1.stood)))
+  | inr u ↦ others j x u.0 (each j x u.1)
+]
+
 pub set-length : {A : Type 0} (xs : List A) (k : ℕ) (x : A) → length (slice_set xs k x) ≡ length xs
 set-length [] k x = refl
 set-length (y ∷ ys) zero x = refl

@@ -1,9 +1,10 @@
 -- The last issue of a computer is one of its own trajectory.
 use Rattle.std.proofs.Common.{Bool, List, None, Option, Some, [], ap, eqb, false, if◌then◌else◌, inl, inr, refl, subst, suc, sym, true, ℕ, ℤ, ◌&&◌, ◌++◌, ◌∙◌, ◌∷◌, ◌≡◌}
 use Rattle.std.proofs.lemmas.Bool.{and_from, eq-eqb, eqb-true}
-use Rattle.dp_core.proofs.Moments.{IsRun, IsRun-from_issue, IsTaken-from_order, moment}
+use Rattle.dp_core.proofs.Moments.{IsMessage, IsRun, IsRun-from_issue, IsTaken-from_order, moment}
 use Rattle.dp_core.proofs.Searches.{last_issue-broken, last_issue-quiet, last_issue-run}
 use Rattle.dp_core.specs.History.{history, seen_of}
+use Rattle.dp_core.specs.Mode.{cycles_begun}
 use Rattle.dp_core.specs.Moment.{Moment, is_break, is_fault, is_order, is_run, is_wire, issue_at, saw_issue, saw_taken}
 use Rattle.dp_core.specs.OwnForce.{IsOwnForce}
 use Rattle.dp_core.specs.Trajectory.{last_issue}
@@ -46,7 +47,7 @@ own_by p c e es x false (Some y) eb ei ih l =
       run = subst (λ d. IsRun p c (history p es) d x) it (IsRun-from_issue p c (history p es) e x (ei ∙ ap Some same));
     }
 
-pub last_issue-own : (p : Plant) (c : ℕ) (es : List Event) (x : Issue) → last_issue c (history p es) ≡ Some x → IsOwnIssue p c es x
+last_issue-own : (p : Plant) (c : ℕ) (es : List Event) (x : Issue) → last_issue c (history p es) ≡ Some x → IsOwnIssue p c es x
 unfolding history last_issue
 last_issue-own p c [] x l = cc
 last_issue-own p c (e ∷ es) x l = own_by p c e es x (is_break c (moment p (history p es) e)) (issue_at c (moment p (history p es) e)) refl refl (last_issue-own p c es x) l
@@ -72,6 +73,23 @@ order-no_fault : (a b k : ℕ) → is_fault a (Order b k) ≡ true → ⊥
 unfolding is_fault
 order-no_fault a b k e = cc
 
+-- what the last issue of a computer says to a voter is its own force
+pub issue-own_force : (p : Plant) (k a : ℕ) (es : List Event) (b : Message) → IsMessage k (last_issue a (history p es)) b → cycles_begun (history p es) ≡ suc b.cycle → IsOwnForce p k a es b.force
+issue-own_force p k a es b x now =
+    let own = last_issue-own p a es x.issue x.is in
+    record {
+      later = own.later;
+      earlier = own.earlier;
+      parts = own.parts;
+      live = own.run.live;
+      frame = own.run.frame;
+      waited = own.run.waited;
+      issue = x.issue;
+      issued = own.run.issued;
+      of_cycle = now ∙ ap suc x.cycle;
+      is = x.force;
+    }
+
 pub own-force : (p : Plant) (k a : ℕ) (es : List Event) → seen_of p (history p es) (Order a k) ≡ SeenSent (Some Taken) → (f : ℤ) × (taken_force k a (history p (Order a k ∷ es)) ≡ Some f) × IsOwnForce p k a es f
 unfolding history
 own-force p k a es s =
@@ -81,19 +99,6 @@ own-force p k a es s =
       taken-by_order p k a h t.0 s t.1.says,
       elim t.1.from_issue [
         | inl lies ↦ absurd (order-no_fault a a k lies)
-        | inr x ↦ (
-            let own = last_issue-own p a es x.issue x.is in
-            record {
-              later = own.later;
-              earlier = own.earlier;
-              parts = own.parts;
-              live = own.run.live;
-              frame = own.run.frame;
-              waited = own.run.waited;
-              issue = x.issue;
-              issued = own.run.issued;
-              of_cycle = t.1.now ∙ ap suc x.cycle;
-              is = x.force;
-            })
+        | inr x ↦ issue-own_force p k a es t.0 x t.1.now
       ],
     )

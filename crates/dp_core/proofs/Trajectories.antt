@@ -1,7 +1,8 @@
 -- How the trajectory of a computer, and the count of its frames, change at an event.
 use Rattle.std.proofs.Common.{Bool, List, None, Some, [], ap, append-nil, arith, cond, false, length-append, refl, sym, true, unwrap_or, ℕ, ◌++◌, ◌+◌, ◌∙◌, ◌∷◌, ◌≡◌, ◌≤◌}
 use Rattle.std.specs.Prelude.{slice_get}
-use Rattle.dp_core.proofs.Cycles.{first-count, rest-count, run_on-count, run_on-grown, run_on-none, run_on-step, slice_get-below}
+use Rattle.dp_exchange.proofs.Counts.{first-count, rest-count}
+use Rattle.dp_core.proofs.Cycles.{run_on-count, run_on-grown, run_on-none, run_on-step, slice_get-below}
 use Rattle.dp_core.proofs.Moments.{Adopts, Broke, IsAdoption, IsAdoption-from_adoption, IsRun-from_issue, IsSkew-from_skew, Kind, Quiet, Runs, Skews, kind, moment}
 use Rattle.dp_core.proofs.Searches.{adoption-base, base-adopted, base-quiet, base-skewed, mode-broken, mode-quiet, no_base-parts, runs-base, runs-quiet, runs-run, skew-base}
 use Rattle.dp_core.specs.History.{history}

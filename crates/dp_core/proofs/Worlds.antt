@@ -10,9 +10,10 @@ use Rattle.dp_codec.specs.Spelling.{IsSoftware, state_read}
 use Rattle.dp_exchange.specs.Offers.{told_state}
 use Rattle.dp_exchange.specs.declared.answers.Offer.{Offer}
 use Rattle.dp_machine.specs.declared.state.State.{State}
-use Rattle.dp_core.proofs.Computers.{IsNothing, mode_of-control, computer-first, computer-wire, computer-kept, computer-run, computer-skew, computer-stop, wire_answer-represents, order-nothing, run-other, run_answer-represents, say-nothing, skew-other, skew_answer-represents, stop-other, vote-nothing, wire-cycles}
+use Rattle.dp_exchange.proofs.Counts.{mode_of-control}
+use Rattle.dp_core.proofs.Computers.{IsNothing, computer-first, computer-wire, computer-kept, computer-run, computer-skew, computer-stop, wire_answer-represents, order-nothing, run-other, run_answer-represents, say-nothing, skew-other, skew_answer-represents, stop-other, vote-nothing, wire-cycles}
 use Rattle.dp_core.proofs.Exchanges.{computer-lie, computer-restart, computer-tell, computer-upgrade, lie-other, lie-read, offer_answer-represents, restart-other, tell-answer-represents, tell-other, upgrade-other}
-use Rattle.dp_core.proofs.Lists.{below-get, changed-alike, changed-at, changed-length, changed-read, changed-same, get-below, map-at, map-length, read-at, three-of}
+use Rattle.dp_core.proofs.Lists.{below-get, changed-alike, changed-each, changed-length, changed-read, changed-same, get-below, map-at, map-length, read-at, three-of}
 use Rattle.dp_core.proofs.Moments.{moment}
 use Rattle.dp_core.proofs.Trajectories.{frames-kept, within}
 use Rattle.dp_core.proofs.Voters.{IsNoVote, IsOrderOf-order, IsOrderOf-say, answer-represents, ballot-represents, fresh_is_last, voter-begun, voter-first, voter-kept, voter-ordered, voter-voted}
@@ -61,15 +62,11 @@ module _ (es : List Event) (w : WorldState) (e : Event) (r : Represents es w) wh
       → ((x : ComputerState) → ComputerRepresents w.plant k (history w.plant es) x → ComputerRepresents w.plant k (moment w.plant (history w.plant es) e ∷ history w.plant es) (change x))
       → ((j : ℕ) → eqb k j ≡ false → IsNothing j (moment w.plant (history w.plant es) e))
       → (c : ℕ) (x : ComputerState) → slice_get (change_at w.computers k change) c ≡ Some x → ComputerRepresents w.plant c (moment w.plant (history w.plant es) e ∷ history w.plant es) x
-  computers_changed k change own others c x at =
+  computers_changed k change own others =
       let h = history w.plant es in
       let m = moment w.plant h e in
-      elim (changed-at w.computers k c change x at) [
-        | inl u ↦ (
-            let t : ComputerRepresents w.plant k (m ∷ h) x = subst (ComputerRepresents w.plant k (m ∷ h)) u.1.is (own u.1.before (r.computers k u.1.before u.1.stood)) in
-            subst (λ j. ComputerRepresents w.plant j (m ∷ h) x) (sym u.0) t)
-        | inr u ↦ computer-kept w.plant c m h x (others c (ne_eqb k c (λ q. u.0 (sym q)))) (within w.plant es) (r.computers c x u.1)
-      ]
+      changed-each (λ c x. ComputerRepresents w.plant c h x) (λ c x. ComputerRepresents w.plant c (m ∷ h) x) w.computers k change own
+      (λ c x n s. computer-kept w.plant c m h x (others c (ne_eqb k c (λ q. n (sym q)))) (within w.plant es) s) r.computers
 
   computers_kept : ((j : ℕ) → IsNothing j (moment w.plant (history w.plant es) e)) → (c : ℕ) (x : ComputerState) → slice_get w.computers c ≡ Some x → ComputerRepresents w.plant c (moment w.plant (history w.plant es) e ∷ history w.plant es) x
   computers_kept all c x at = computer-kept w.plant c (moment w.plant (history w.plant es) e) (history w.plant es) x (all c) (within w.plant es) (r.computers c x at)
@@ -78,15 +75,11 @@ module _ (es : List Event) (w : WorldState) (e : Event) (r : Represents es w) wh
       → ((v : VoterState) → VoterRepresents w.plant k (history w.plant es) v → VoterRepresents w.plant k (moment w.plant (history w.plant es) e ∷ history w.plant es) (change v))
       → ((j : ℕ) → (j ≡ k → ⊥) → IsNoVote j (moment w.plant (history w.plant es) e))
       → (j : ℕ) (v : VoterState) → slice_get (change_at w.voters k change) j ≡ Some v → VoterRepresents w.plant j (moment w.plant (history w.plant es) e ∷ history w.plant es) v
-  voters_changed k change own others j v at =
+  voters_changed k change own others =
       let h = history w.plant es in
       let m = moment w.plant h e in
-      elim (changed-at w.voters k j change v at) [
-        | inl u ↦ (
-            let t : VoterRepresents w.plant k (m ∷ h) v = subst (VoterRepresents w.plant k (m ∷ h)) u.1.is (own u.1.before (r.voters k u.1.before u.1.stood)) in
-            subst (λ i. VoterRepresents w.plant i (m ∷ h) v) (sym u.0) t)
-        | inr u ↦ voter-kept w.plant j m h v (others j u.0) (r.voters j v u.1)
-      ]
+      changed-each (λ j v. VoterRepresents w.plant j h v) (λ j v. VoterRepresents w.plant j (m ∷ h) v) w.voters k change own
+      (λ j v n s. voter-kept w.plant j m h v (others j n) s) r.voters
 
   voters_kept : ((j : ℕ) → IsNoVote j (moment w.plant (history w.plant es) e)) → (k : ℕ) (v : VoterState) → slice_get w.voters k ≡ Some v → VoterRepresents w.plant k (moment w.plant (history w.plant es) e ∷ history w.plant es) v
   voters_kept all k v at = voter-kept w.plant k (moment w.plant (history w.plant es) e) (history w.plant es) v (all k) (r.voters k v at)
@@ -96,33 +89,14 @@ module _ (es : List Event) (w : WorldState) (e : Event) (r : Represents es w) wh
 
 -- ---- what is nothing to a voter
 
-run-no_vote : (p : Plant) (c k : ℕ) (h : List Moment) → IsNoVote k (moment p h (Run c))
-unfolding is_wire frame_of is_order ballot_at is_vote
-run-no_vote p c k h = record { no_wire = refl; no_frame = refl; no_order = λ a. refl; no_ballot = refl }
-
-stop-no_vote : (p : Plant) (c k : ℕ) (h : List Moment) → IsNoVote k (moment p h (Stop c))
-unfolding is_wire frame_of is_order ballot_at is_vote
-stop-no_vote p c k h = record { no_wire = refl; no_frame = refl; no_order = λ a. refl; no_ballot = refl }
-
-skew-no_vote : (p : Plant) (c k : ℕ) (at : Place) (h : List Moment) → IsNoVote k (moment p h (Skew c at))
-unfolding is_wire frame_of is_order ballot_at is_vote
-skew-no_vote p c k at h = record { no_wire = refl; no_frame = refl; no_order = λ a. refl; no_ballot = refl }
-
-tell-no_vote : (p : Plant) (a c k : ℕ) (h : List Moment) → IsNoVote k (moment p h (Tell a c))
-unfolding is_wire frame_of is_order ballot_at is_vote
-tell-no_vote p a c k h = record { no_wire = refl; no_frame = refl; no_order = λ d. refl; no_ballot = refl }
-
-lie-no_vote : (p : Plant) (a c k : ℕ) (bytes : ArrayVec ℕ) (h : List Moment) → IsNoVote k (moment p h (Lie a c bytes))
-unfolding is_wire frame_of is_order ballot_at is_vote
-lie-no_vote p a c k bytes h = record { no_wire = refl; no_frame = refl; no_order = λ d. refl; no_ballot = refl }
-
-restart-no_vote : (p : Plant) (c k : ℕ) (h : List Moment) → IsNoVote k (moment p h (Restart c))
-unfolding is_wire frame_of is_order ballot_at is_vote
-restart-no_vote p c k h = record { no_wire = refl; no_frame = refl; no_order = λ a. refl; no_ballot = refl }
-
-upgrade-no_vote : (p : Plant) (c k : ℕ) (h : List Moment) → IsNoVote k (moment p h (Upgrade c))
-unfolding is_wire frame_of is_order ballot_at is_vote
-upgrade-no_vote p c k h = record { no_wire = refl; no_frame = refl; no_order = λ a. refl; no_ballot = refl }
+no-vote : (p : Plant) (h : List Moment) (e : Event) (k : ℕ) → is_wire e ≡ false → frame_of e ≡ [] → ((a : ℕ) → is_order a k e ≡ false) → is_vote k e ≡ false → IsNoVote k (moment p h e)
+unfolding ballot_at
+no-vote p h e k wire frame order vote = record {
+  no_wire = wire;
+  no_frame = frame;
+  no_order = λ a. and_left (is_order a k e) (saw_taken (seen_of p h e)) (order a);
+  no_ballot = rw vote refl;
+}
 
 vote-of_another : (p : Plant) (k j : ℕ) (h : List Moment) → (j ≡ k → ⊥) → IsNoVote j (moment p h (Vote k))
 unfolding is_wire frame_of is_order ballot_at is_vote
@@ -207,81 +181,68 @@ wire-represents es w f r =
       cycles = ap (λ n. n + 1) r.cycles ∙ sym (wire-cycles p h f);
     }
 
-run-represents : (es : List Event) (w : WorldState) (c : ℕ) → Represents es w → Represents (Run c ∷ es) (after w (Run c))
-unfolding after history frame_of
-run-represents es w c r =
-    let p = w.plant in
-    let h = history p es in
-    record {
-      computers = computers_changed es w (Run c) r c after_run (λ x s. computer-run p c h x (within p es) s) (λ j e. run-other p j c h e);
-      three = changed-length w.computers c after_run ∙ r.three;
-      voters = voters_kept es w (Run c) r (λ k. run-no_vote p c k h);
-      thrusters = r.thrusters;
-      cycles = cycles_kept es w (Run c) r refl;
-    }
-
-stop-represents : (es : List Event) (w : WorldState) (c : ℕ) → Represents es w → Represents (Stop c ∷ es) (after w (Stop c))
-unfolding after history frame_of
-stop-represents es w c r =
-    let p = w.plant in
-    let h = history p es in
-    record {
-      computers = computers_changed es w (Stop c) r c after_stop (λ x s. computer-stop p c h x s) (λ j e. stop-other p j c h e);
-      three = changed-length w.computers c after_stop ∙ r.three;
-      voters = voters_kept es w (Stop c) r (λ k. stop-no_vote p c k h);
-      thrusters = r.thrusters;
-      cycles = cycles_kept es w (Stop c) r refl;
-    }
-
 -- an event that changes one of the computers, and is nothing to the voters
-one-represents : (es : List Event) (w : WorldState) (e : Event) (c : ℕ) (change : ComputerState → ComputerState) → frame_of e ≡ []
+one-represents : (es : List Event) (w : WorldState) (e : Event) (c : ℕ) (change : ComputerState → ComputerState)
+    → is_wire e ≡ false → frame_of e ≡ [] → ((a k : ℕ) → is_order a k e ≡ false) → ((k : ℕ) → is_vote k e ≡ false)
     → ((x : ComputerState) → ComputerRepresents w.plant c (history w.plant es) x → ComputerRepresents w.plant c (moment w.plant (history w.plant es) e ∷ history w.plant es) (change x))
     → ((j : ℕ) → eqb c j ≡ false → IsNothing j (moment w.plant (history w.plant es) e))
-    → ((k : ℕ) → IsNoVote k (moment w.plant (history w.plant es) e)) → Represents es w → Represents (e ∷ es) (record w { computers = change_at w.computers c change })
+    → Represents es w → Represents (e ∷ es) (record w { computers = change_at w.computers c change })
 unfolding history
-one-represents es w e c change n own others votes r = record {
+one-represents es w e c change wire frame order vote own others r = record {
   computers = computers_changed es w e r c change own others;
   three = changed-length w.computers c change ∙ r.three;
-  voters = voters_kept es w e r votes;
+  voters = voters_kept es w e r (λ k. no-vote w.plant (history w.plant es) e k wire frame (λ a. order a k) (vote k));
   thrusters = r.thrusters;
-  cycles = cycles_kept es w e r n;
+  cycles = cycles_kept es w e r frame;
 }
 
+run-represents : (es : List Event) (w : WorldState) (c : ℕ) → Represents es w → Represents (Run c ∷ es) (after w (Run c))
+unfolding after is_wire frame_of is_order is_vote
+run-represents es w c r =
+    let h = history w.plant es in
+    one-represents es w (Run c) c after_run refl refl (λ a k. refl) (λ k. refl)
+    (λ x s. computer-run w.plant c h x (within w.plant es) s) (λ j e. run-other w.plant j c h e) r
+
+stop-represents : (es : List Event) (w : WorldState) (c : ℕ) → Represents es w → Represents (Stop c ∷ es) (after w (Stop c))
+unfolding after is_wire frame_of is_order is_vote
+stop-represents es w c r =
+    let h = history w.plant es in
+    one-represents es w (Stop c) c after_stop refl refl (λ a k. refl) (λ k. refl)
+    (λ x s. computer-stop w.plant c h x s) (λ j e. stop-other w.plant j c h e) r
+
 restart-represents : (es : List Event) (w : WorldState) (c : ℕ) → Represents es w → Represents (Restart c ∷ es) (after w (Restart c))
-unfolding after frame_of
+unfolding after is_wire frame_of is_order is_vote
 restart-represents es w c r =
     let p = w.plant in
     let h = history p es in
-    one-represents es w (Restart c) c (λ x. after_restart x w.cycles_begun) refl
+    one-represents es w (Restart c) c (λ x. after_restart x w.cycles_begun) refl refl (λ a k. refl) (λ k. refl)
     (λ x s. subst (λ n. ComputerRepresents p c (moment p h (Restart c) ∷ h) (after_restart x n)) (sym r.cycles) (computer-restart p c h x s))
-    (λ j e. restart-other p j c h e) (λ k. restart-no_vote p c k h) r
+    (λ j e. restart-other p j c h e) r
 
 upgrade-represents : (es : List Event) (w : WorldState) (c : ℕ) → Represents es w → Represents (Upgrade c ∷ es) (after w (Upgrade c))
-unfolding after frame_of
+unfolding after is_wire frame_of is_order is_vote
 upgrade-represents es w c r =
     let p = w.plant in
     let h = history p es in
-    one-represents es w (Upgrade c) c (λ x. after_upgrade x w.cycles_begun) refl
+    one-represents es w (Upgrade c) c (λ x. after_upgrade x w.cycles_begun) refl refl (λ a k. refl) (λ k. refl)
     (λ x s. subst (λ n. ComputerRepresents p c (moment p h (Upgrade c) ∷ h) (after_upgrade x n)) (sym r.cycles) (computer-upgrade p c h x s))
-    (λ j e. upgrade-other p j c h e) (λ k. upgrade-no_vote p c k h) r
+    (λ j e. upgrade-other p j c h e) r
 
 lie-represents : (es : List Event) (w : WorldState) (a c : ℕ) (bytes : ArrayVec ℕ) → a < 3 → Represents es w → Represents (Lie a c bytes ∷ es) (after w (Lie a c bytes))
-unfolding after frame_of
+unfolding after is_wire frame_of is_order is_vote
 lie-represents es w a c bytes a3 r =
     let p = w.plant in
     let h = history p es in
-    one-represents es w (Lie a c bytes) c (λ x. after_offer x a (offered_by x bytes.items)) refl
-    (λ x s. computer-lie p c a bytes h x a3 (within p es) s)
-    (λ j e. lie-other p j a c bytes h e) (λ k. lie-no_vote p a c k bytes h) r
+    one-represents es w (Lie a c bytes) c (λ x. after_offer x a (offered_by x bytes.items)) refl refl (λ b k. refl) (λ k. refl)
+    (λ x s. computer-lie p c a bytes h x a3 (within p es) s) (λ j e. lie-other p j a c bytes h e) r
 
 tell-represents_by : (es : List Event) (w : WorldState) (a c : ℕ) (y : ComputerState) → a < 3 → slice_get w.computers a ≡ Some y → Represents es w → Represents (Tell a c ∷ es) (record w { computers = change_at w.computers c (after_tell a (Some y)) })
-unfolding frame_of
+unfolding is_wire frame_of is_order is_vote
 tell-represents_by es w a c y a3 at r =
     let p = w.plant in
     let h = history p es in
-    one-represents es w (Tell a c) c (after_tell a (Some y)) refl
-    (λ x s. computer-tell p c a h y x a3 (within p es) (r.computers a y at) s)
-    (λ j e. tell-other p j a c h e) (λ k. tell-no_vote p a c k h) r
+    one-represents es w (Tell a c) c (after_tell a (Some y)) refl refl (λ b k. refl) (λ k. refl)
+    (λ x s. computer-tell p c a h y x a3 (within p es) (r.computers a y at) s) (λ j e. tell-other p j a c h e) r
 
 tell-represents : (es : List Event) (w : WorldState) (a c : ℕ) → a < 3 → Represents es w → Represents (Tell a c ∷ es) (after w (Tell a c))
 unfolding after
@@ -291,17 +252,11 @@ tell-represents es w a c a3 r =
     subst (λ o. Represents (Tell a c ∷ es) (record w { computers = change_at w.computers c (after_tell a o) })) (sym y.1) (tell-represents_by es w a c y.0 a3 y.1 r)
 
 skew-represents : (es : List Event) (w : WorldState) (c : ℕ) (at : Place) → Represents es w → Represents (Skew c at ∷ es) (after w (Skew c at))
-unfolding after history frame_of
+unfolding after is_wire frame_of is_order is_vote
 skew-represents es w c at r =
-    let p = w.plant in
-    let h = history p es in
-    record {
-      computers = computers_changed es w (Skew c at) r c (λ x. after_skew x at) (λ x s. computer-skew p c at h x (within p es) s) (λ j e. skew-other p j c at h e);
-      three = changed-length w.computers c (λ x. after_skew x at) ∙ r.three;
-      voters = voters_kept es w (Skew c at) r (λ k. skew-no_vote p c k at h);
-      thrusters = r.thrusters;
-      cycles = cycles_kept es w (Skew c at) r refl;
-    }
+    let h = history w.plant es in
+    one-represents es w (Skew c at) c (λ x. after_skew x at) refl refl (λ a k. refl) (λ k. refl)
+    (λ x s. computer-skew w.plant c at h x (within w.plant es) s) (λ j e. skew-other w.plant j c at h e) r
 
 vote-represents : (es : List Event) (w : WorldState) (k : ℕ) → Represents es w → Represents (Vote k ∷ es) (after w (Vote k))
 unfolding after history frame_of
@@ -378,26 +333,26 @@ wire-answers es w r =
     let z = r.computers 2 t.third (ap (λ xs. slice_get xs 2) t.are) in
     ap (map wire_answer) t.are ∙ rw (wire_answer-represents p 0 h t.first x, wire_answer-represents p 1 h t.second y, wire_answer-represents p 2 h t.third z)
 
-pub run-answer : (es : List Event) (w : WorldState) (c : ℕ) (a : Ran) → c < 3 → Represents es w → ((x : ComputerState) → slice_get w.computers c ≡ Some x → a ≡ run_answer x) → a ≡ answer_to_run w.plant c (history w.plant es) (modes.mode c (history w.plant es))
-run-answer es w c a c3 r is =
+-- what a computer answers is what the moments say, where each that represents them answers so
+pub one-answer : (es : List Event) (w : WorldState) (c : ℕ) {A : Type 0} (answer : ComputerState → A) (told a : A) → c < 3 → Represents es w
+    → ((x : ComputerState) → ComputerRepresents w.plant c (history w.plant es) x → answer x ≡ told) → ((x : ComputerState) → slice_get w.computers c ≡ Some x → a ≡ answer x) → a ≡ told
+one-answer es w c answer told a c3 r says is =
     let three = r.three in
     let t = get-below w.computers c (omega arith) in
-    is t.0 t.1 ∙ run_answer-represents w.plant c (history w.plant es) t.0 (r.computers c t.0 t.1)
+    is t.0 t.1 ∙ says t.0 (r.computers c t.0 t.1)
+
+pub run-answer : (es : List Event) (w : WorldState) (c : ℕ) (a : Ran) → c < 3 → Represents es w → ((x : ComputerState) → slice_get w.computers c ≡ Some x → a ≡ run_answer x) → a ≡ answer_to_run w.plant c (history w.plant es) (modes.mode c (history w.plant es))
+run-answer es w c a c3 r is = one-answer es w c run_answer _ a c3 r (run_answer-represents w.plant c (history w.plant es)) is
 
 pub skew-answer : (es : List Event) (w : WorldState) (c : ℕ) (a : Bool) → c < 3 → Represents es w → ((x : ComputerState) → slice_get w.computers c ≡ Some x → a ≡ skew_answer x) → a ≡ is_live (modes.mode c (history w.plant es))
-skew-answer es w c a c3 r is =
-    let three = r.three in
-    let t = get-below w.computers c (omega arith) in
-    is t.0 t.1 ∙ skew_answer-represents w.plant c (history w.plant es) t.0 (r.computers c t.0 t.1)
+skew-answer es w c a c3 r is = one-answer es w c skew_answer _ a c3 r (skew_answer-represents w.plant c (history w.plant es)) is
 
 pub lie-answer : (es : List Event) (w : WorldState) (a c : ℕ) (bytes : List ℕ) (o : Offer) → c < 3 → Represents es w → ((x : ComputerState) → slice_get w.computers c ≡ Some x → o ≡ offer_answer x a (offered_by x bytes))
     → o ≡ answer_in w.plant c a (history w.plant es) (state_read w.plant (modes.software c (history w.plant es)) bytes) (modes.mode c (history w.plant es))
 lie-answer es w a c bytes o c3 r is =
     let h = history w.plant es in
-    let three = r.three in
-    let t = get-below w.computers c (omega arith) in
-    let x = r.computers c t.0 t.1 in
-    is t.0 t.1 ∙ (ap (offer_answer t.0 a) (lie-read w.plant c bytes h t.0 x) ∙ offer_answer-represents w.plant c a h (state_read w.plant (modes.software c h) bytes) t.0 x)
+    one-answer es w c (λ x. offer_answer x a (offered_by x bytes)) _ o c3 r
+    (λ x s. ap (offer_answer x a) (lie-read w.plant c bytes h x s) ∙ offer_answer-represents w.plant c a h (state_read w.plant (modes.software c h) bytes) x s) is
 
 -- ---- what is told, by its text
 

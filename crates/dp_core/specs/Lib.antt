@@ -29,6 +29,14 @@ pub use Rattle.dp_core.specs.Several.{order_events, sent, sent_by}
 pub use Rattle.dp_core.specs.WorldView.{IsInStep, IsWorld, world_of}
 pub use Rattle.dp_core.specs.Laws.{AdoptedIsReference, FreshIsReference, HeldIsOwn, SkewedIsFaulty, TakenIsOwn, TrajectoriesAreReference, TwoHeardAreFresh}
 -- what a world's contracts name of the crates below, and of the types
+pub use Rattle.std.specs.Option.{option_map}
+pub use Rattle.dp_plant.specs.{IsFrameInRange, IsVectorWithin}
+pub use Rattle.dp_machine.specs.{IsAcceptedPlant}
+pub use Rattle.dp_machine.specs.Machine.{MachineValue}
+pub use Rattle.dp_machine.specs.declared.state.State.{State}
+pub use Rattle.dp_codec.specs.{IsSoftware, state_read}
+pub use Rattle.dp_exchange.specs.ComputerState.{ComputerState, InControl}
+pub use Rattle.dp_exchange.specs.{told_state}
 pub use Rattle.dp_plant.specs.declared.thrusters.Thruster.{Thruster}
 pub use Rattle.dp_voter.specs.{answer_of, begun}
 pub use Rattle.dp_voter.specs.VoterState.{VoterState}

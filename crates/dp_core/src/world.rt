@@ -1,18 +1,10 @@
 //! Three computers and a voter for each thruster: what each event does to them.
 ghost use Rattle.std.specs.Prelude.{◌≡◌, ◌≢◌, ◌<◌, ◌≤ℤ◌, ◌^◌, ◌==◌, ℕ, suc, List, [], ◌∷◌, IfOk, map, length, Some, slice_get, option_copied};
-ghost use Rattle.std.specs.Option.{option_map};
-ghost use Rattle.dp_plant.specs.{IsFrameInRange, IsVectorWithin};
-ghost use Rattle.dp_machine.specs.{IsAcceptedPlant};
-ghost use Rattle.dp_core.specs.{Event, IsAllowed, IsInStep, Thruster, VoterState, after, after_run, after_wire, alarms_in, answer, answer_if, answer_of};
-ghost use Rattle.dp_core.specs.{IsLeftOf, IsMachineOf, answer_in, answer_to_offer, answer_to_run, answers_to_wire, ballot, begun, change_at, cycle_alarms, history};
-ghost use Rattle.dp_core.specs.{is_live, last_issue, last_of, offered, software, spelling_at, text_answer, told_text};
-ghost use Rattle.dp_core.specs.{after_order, order_events, sent, sent_by, with_text};
-ghost use Rattle.dp_core.specs.{message_by, message_of, mode, seen_of, taken_forces, voter_of, wire_answer};
-ghost use Rattle.dp_codec.specs.{IsSoftware, state_read};
-ghost use Rattle.dp_exchange.specs.ComputerState.{ComputerState, InControl};
-ghost use Rattle.dp_exchange.specs.Offers.{told_state};
-ghost use Rattle.dp_machine.specs.Machine.{MachineValue};
-ghost use Rattle.dp_machine.specs.declared.state.State.{State};
+ghost use Rattle.dp_core.specs.{ComputerState, Event, InControl, IsAcceptedPlant, IsFrameInRange, IsSoftware, IsVectorWithin, MachineValue, State, Thruster, VoterState};
+ghost use Rattle.dp_core.specs.{IsAllowed, IsInStep, IsLeftOf, IsMachineOf, after, after_order, after_run, after_wire, alarms_in, answer, answer_if, answer_in, answer_of};
+ghost use Rattle.dp_core.specs.{answer_to_offer, answer_to_run, answers_to_wire, ballot, begun, change_at, cycle_alarms, history, is_live, last_issue, last_of, message_by};
+ghost use Rattle.dp_core.specs.{message_of, mode, offered, option_map, order_events, seen_of, sent, sent_by, software, spelling_at, state_read, taken_forces};
+ghost use Rattle.dp_core.specs.{text_answer, told_state, told_text, voter_of, wire_answer, with_text};
 ghost use Rattle.dp_core.specs.Represents.{Represents};
 ghost use Rattle.dp_core.specs.declared.event.Event.TheVariants.{Wire, Run, Order, Tell, Vote, Skew, Say, Lie, Stop, Restart, Upgrade};
 

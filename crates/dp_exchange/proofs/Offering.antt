@@ -89,16 +89,16 @@ answered x from bytes = offer_answer x from (offered_by x bytes)
 taken-new : (i : Inside) (from : ℕ) (bytes : List ℕ) (m : MachineValue) (texts : List (List ℕ)) (b : Bool) → IsTaken i from bytes m texts b → with_offer (computer_state i) from m.state b ≡ offered (computer_state i) from bytes
 taken-new i from bytes m texts b t = sym (ap (after_offer (computer_state i) from) t.read ∙ fit-new (computer_state i) from m.state b t.fit)
 
-pub taken-answer : (i : Inside) (from : ℕ) (bytes : List ℕ) (m : MachineValue) (texts : List (List ℕ)) (b : Bool) → IsTaken i from bytes m texts b → cond b Adopted OfferKept ≡ answered (computer_state i) from bytes
+taken-answer : (i : Inside) (from : ℕ) (bytes : List ℕ) (m : MachineValue) (texts : List (List ℕ)) (b : Bool) → IsTaken i from bytes m texts b → cond b Adopted OfferKept ≡ answered (computer_state i) from bytes
 taken-answer i from bytes m texts b t = sym (ap (offer_answer (computer_state i) from) t.read ∙ fit-answer (computer_state i) from m.state b t.fit)
 
-pub kept-new : (i : Inside) (from : ℕ) (bytes : List ℕ) (m : MachineValue) (texts : List (List ℕ)) → IsTaken i from bytes m texts false → computer_state (record i { machine = m; offers = texts }) ≡ offered (computer_state i) from bytes
+kept-new : (i : Inside) (from : ℕ) (bytes : List ℕ) (m : MachineValue) (texts : List (List ℕ)) → IsTaken i from bytes m texts false → computer_state (record i { machine = m; offers = texts }) ≡ offered (computer_state i) from bytes
 kept-new i from bytes m texts t =
     ap (λ (n : MachineValue). computer_state (record i { machine = n; offers = texts })) t.same
     ∙ kept-view i m.state from texts t.aligning t.kept.offers
     ∙ taken-new i from bytes m texts false t
 
-pub adopted-new : (i : Inside) (from : ℕ) (bytes : List ℕ) (m : MachineValue) (texts : List (List ℕ)) (waits : Buffer Frame) → IsTaken i from bytes m texts true → waits.items ≡ keep_last (i.next - m.state.count) i.waits.items
+adopted-new : (i : Inside) (from : ℕ) (bytes : List ℕ) (m : MachineValue) (texts : List (List ℕ)) (waits : Buffer Frame) → IsTaken i from bytes m texts true → waits.items ≡ keep_last (i.next - m.state.count) i.waits.items
     → computer_state (record i { mode = Live; machine = m; waits = waits; offers = texts }) ≡ offered (computer_state i) from bytes
 adopted-new i from bytes m texts waits t w =
     ap (λ (n : MachineValue). computer_state (record i { mode = Live; machine = n; waits = waits; offers = texts })) t.same
@@ -123,6 +123,25 @@ taken i from bytes m texts b law apart is low mode found same old new state thre
         repeated = sym kept.repeated ∙ repeated;
       };
     }
+
+-- both at once: what an offer makes of a computer, and what it is answered
+pub record IsAnswered (x after : ComputerState) (from : ℕ) (bytes : List ℕ) (told : Offer) : Type 0 where
+  pub new : after ≡ offered x from bytes
+  pub answer : told ≡ answered x from bytes
+
+pub kept-both : (i : Inside) (x : ComputerState) (from : ℕ) (bytes : List ℕ) (m : MachineValue) (texts : List (List ℕ)) → computer_state i ≡ x → IsTaken i from bytes m texts false
+    → IsAnswered x (computer_state (record i { machine = m; offers = texts })) from bytes OfferKept
+kept-both i x from bytes m texts view t = record {
+  new = kept-new i from bytes m texts t ∙ ap (λ z. offered z from bytes) view;
+  answer = taken-answer i from bytes m texts false t ∙ ap (λ z. answered z from bytes) view;
+}
+
+pub adopted-both : (i : Inside) (x : ComputerState) (from : ℕ) (bytes : List ℕ) (m : MachineValue) (texts : List (List ℕ)) (waits : Buffer Frame) → computer_state i ≡ x → IsTaken i from bytes m texts true
+    → waits.items ≡ keep_last (i.next - m.state.count) i.waits.items → IsAnswered x (computer_state (record i { mode = Live; machine = m; waits = waits; offers = texts })) from bytes Adopted
+adopted-both i x from bytes m texts waits view t newest = record {
+  new = adopted-new i from bytes m texts waits t newest ∙ ap (λ z. offered z from bytes) view;
+  answer = taken-answer i from bytes m texts true t ∙ ap (λ z. answered z from bytes) view;
+}
 
 -- the texts still spell states of the plant
 pub texts-spell : (i : Inside) (from : ℕ) (m : MachineValue) (texts : List (List ℕ)) → WrittenIsRead i.machine.plant → AllByRecursion (IsOfferText i.machine.plant) i.offers → m ≡ with_state i.machine m.state → IsPlantState m.plant m.state

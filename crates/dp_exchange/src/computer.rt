@@ -6,8 +6,7 @@ ghost use Rattle.dp_plant.specs.declared.voting.Mode.TheVariants.{Off};
 ghost use Rattle.dp_machine.specs.{IsAcceptedPlant};
 ghost use Rattle.dp_machine.specs.declared.state.State.{State};
 ghost use Rattle.dp_codec.specs.{IsSoftware, state_read};
-ghost use Rattle.dp_exchange.specs.ComputerState.{InControl, after_offer, after_restart, after_run, after_skew, after_stop, after_upgrade, after_wire, first_computer, is_live, mode_of, offer_answer, offered_by, run_answer, skew_answer, text_at, told_text, wire_answer};
-ghost use Rattle.dp_exchange.specs.Offers.{told_state};
+ghost use Rattle.dp_exchange.specs.{InControl, after_offer, after_restart, after_run, after_skew, after_stop, after_upgrade, after_wire, first_computer, is_live, mode_of, offer_answer, offered_by, run_answer, skew_answer, text_at, told_state, told_text, wire_answer};
 
 use crate::offers::Offers;
 use crate::{Heard, Issue, Offer, Ran};

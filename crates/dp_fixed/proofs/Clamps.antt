@@ -1,5 +1,5 @@
 -- Clamps and the middle of three.
-use Rattle.std.proofs.Common.{◌≡◌, ◌≤◌, ℤ, ◌-ℤ◌, ◌≤ℤ◌, unsigned_abs, arith}
+use Rattle.std.proofs.Common.{◌≡◌, ◌≤◌, ℕ, ℤ, ◌-ℤ◌, ◌≤ℤ◌, unsigned_abs, arith}
 use Rattle.std.proofs.lemmas.Int.{ints, clamps}
 use Rattle.dp_fixed.specs.Order.{IsMiddle, clamp_of, mid3_of}
 
@@ -21,3 +21,7 @@ middle_is a b c = record {
   last_two = record { low = omega (arith, ints, clamps); high = omega (arith, ints, clamps) };
   outer_two = record { low = omega (arith, ints, clamps); high = omega (arith, ints, clamps) };
 }
+
+-- the middle of three is as small as they are
+pub middle_small : (a b c : ℤ) (most : ℕ) → unsigned_abs a ≤ most → unsigned_abs b ≤ most → unsigned_abs c ≤ most → unsigned_abs (mid3_of a b c) ≤ most
+middle_small a b c most first second third = omega (arith, ints, clamps)

@@ -5,3 +5,4 @@ pub mod Wraps
 pub mod RootsUp
 pub mod LeastRoots
 pub mod BitLemmas
+pub mod NearTurns

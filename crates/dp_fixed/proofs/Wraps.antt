@@ -5,7 +5,7 @@ use Rattle.std.specs.Int.{int_div_euclid, int_rem_euclid}
 use Rattle.dp_fixed.specs.Division.{floor_of}
 use Rattle.dp_fixed.specs.Turns.{IsWrapped, wrap_of}
 
-rest_is : (n d : ℤ) → pos 0 <ℤ d → n ≡ int_rem_euclid n d +ℤ int_div_euclid n d *ℤ d
+pub rest_is : (n d : ℤ) → pos 0 <ℤ d → n ≡ int_rem_euclid n d +ℤ int_div_euclid n d *ℤ d
 rest_is (pos a) (pos b) h = omega (arith, ints)
 rest_is (negsuc a) (pos b) h = omega (arith, ints)
 rest_is n (negsuc b) h = absurd (omega (arith, ints))

@@ -13,10 +13,10 @@ mod steps;
 mod turns;
 
 pub use division::{ceil_div, floor_div};
-pub use order::{clamp, mid3};
+pub use order::{clamp, mid3, middle};
 pub use roots::root_up;
-pub use steps::{difference, narrow, negated, product, sum};
-pub use turns::wrap;
+pub use steps::{difference, less, more, narrow, negated, product, sum};
+pub use turns::{wrap, wrap_near};
 
 /// The scale of gains, shares and sine pairs: 2^30 stands for one.
 pub const Q: i128 = 1 << 30;

@@ -26,3 +26,11 @@ pub fn mid3(a: i128, b: i128, c: i128) -> i128
         c
     }
 }
+
+/// The same in 64 bits.
+#[inline]
+pub fn middle(a: i64, b: i64, c: i64) -> i64
+    ensures { result ≡ mid3_of a b c }
+{
+    a.min(b).max(a.max(b).min(c))
+}

@@ -55,3 +55,25 @@ pub fn narrow(x: i128) -> i64
 {
     x as i64
 }
+
+/// One number and another more, in 64 bits.
+#[inline]
+pub fn more(a: i64, b: i64) -> i64
+    requires a { unsigned_abs a ≤ 2 ^ 61 }
+    requires b { unsigned_abs b ≤ 2 ^ 61 }
+    ensures value { result ≡ a +ℤ b }
+    ensures bound { unsigned_abs result ≤ unsigned_abs a + unsigned_abs b }
+{
+    a + b
+}
+
+/// One number less another, in 64 bits.
+#[inline]
+pub fn less(a: i64, b: i64) -> i64
+    requires a { unsigned_abs a ≤ 2 ^ 61 }
+    requires b { unsigned_abs b ≤ 2 ^ 61 }
+    ensures value { result ≡ a -ℤ b }
+    ensures bound { unsigned_abs result ≤ unsigned_abs a + unsigned_abs b }
+{
+    a - b
+}

@@ -14,5 +14,5 @@ pub mod PieceSteps
 pub mod PieceFrames
 pub mod WireNames
 pub mod ToldLines
-pub mod NearTurns
+pub mod FarNorth
 pub mod LeadingDigits

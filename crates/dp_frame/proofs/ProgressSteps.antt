@@ -52,11 +52,11 @@ unfolding answer
 answer-blank b lines line r =
     rw (refusal-more b.settings lines line Blank r.ok r.judged, entries-blank b.settings lines line r.ok r.judged) (sym (closed-still (entries b.settings lines)))
 
-pub represents-good : (b : Progress) (lines : List (List ℕ)) (line : List ℕ) (e : Entry) (kept over : Frame) → b.refusal ≡ None → Ready b lines line (Good e)
+pub represents-good : (b : Progress) (lines : List (List ℕ)) (line : List ℕ) (e : Entry) (kept completed : Frame) → b.refusal ≡ None → Ready b lines line (Good e)
     → kept ≡ frame_of e.cycle (e ∷ entries b.settings lines)
-    → ProgressRepresents record { settings = b.settings; refusal = b.refusal; number = b.number + 1; last = e.time; begun = true; kept = kept; over = over } (line ∷ lines)
+    → ProgressRepresents record { settings = b.settings; refusal = b.refusal; number = b.number + 1; last = e.time; begun = true; kept = kept; completed = completed } (line ∷ lines)
 unfolding last_cycle is_begun
-represents-good b lines line e kept over none r is =
+represents-good b lines line e kept completed none r is =
     let says = judge-good b.settings (last_time lines) line e r.judged in
     record {
       refusal = none ∙ sym (refusal-more b.settings lines line (Good e) r.ok r.judged);
@@ -85,7 +85,7 @@ refused-at b lines line j f r is =
 
 pub represents-refused : (b : Progress) (lines : List (List ℕ)) (line : List ℕ) (j : Judged) (f : Refusal) → Ready b lines line j
     → refusal_of (b.number + 1) j ≡ Some f
-    → ProgressRepresents record { settings = b.settings; refusal = Some f; number = b.number + 1; last = b.last; begun = b.begun; kept = b.kept; over = b.over } (line ∷ lines)
+    → ProgressRepresents record { settings = b.settings; refusal = Some f; number = b.number + 1; last = b.last; begun = b.begun; kept = b.kept; completed = b.completed } (line ∷ lines)
 represents-refused b lines line j f r is = record {
   refusal = sym (refused-at b lines line j f r is);
   keeps = λ none. absurd (some_none f none);
@@ -101,10 +101,10 @@ unfolding answer
 answer-refused b lines line j f r is = rw (refused-at b lines line j f r is)
 
 -- before the first line
-pub represents-first : (settings : Settings) (kept over : Frame) → kept ≡ no_frame 0
-    → ProgressRepresents record { settings = settings; refusal = None; number = 0; last = 0; begun = false; kept = kept; over = over } []
+pub represents-first : (settings : Settings) (kept completed : Frame) → kept ≡ no_frame 0
+    → ProgressRepresents record { settings = settings; refusal = None; number = 0; last = 0; begun = false; kept = kept; completed = completed } []
 unfolding first_refusal last_time entries good_lines last_cycle is_begun IsBefore
-represents-first settings kept over is = record {
+represents-first settings kept completed is = record {
   refusal = refl;
   keeps = λ _. record { number = refl; last = refl; begun = refl; kept = is ∙ sym (frame-before 0 [] nothing) };
 }

@@ -3,8 +3,8 @@ ghost use Rattle.std.specs.Prelude.{◌≡◌, ◌<◌, ◌≤◌, IfSome, take}
 ghost use Rattle.dp_frame.specs.{IsJudgedWithin, IsReadable, IsWire, judge, judge_rest, judge_time, judge_wire, name_len, number_of, time_len};
 
 use crate::LineFault;
+use crate::contents::content;
 use crate::entry::{Entry, Judged};
-use crate::sensing::content;
 use crate::settings::Settings;
 use crate::wires::wire;
 use dp_plant::Wire;

@@ -43,6 +43,7 @@
 //! Not proved: that no call takes memory, and that each byte is looked at a fixed number of times.
 #![tactic(auto)]
 
+mod contents;
 mod entry;
 mod fault;
 mod feed;
@@ -52,7 +53,6 @@ pub mod laws;
 mod lines;
 mod origin;
 mod progress;
-mod sensing;
 mod settings;
 mod wires;
 

@@ -70,7 +70,7 @@ impl Lines {
                 last: 0,
                 begun: false,
                 kept,
-                over: kept,
+                completed: kept,
             },
             prefix: ArrayVec::new(),
             prefix_len: 0,
@@ -159,7 +159,7 @@ impl Lines {
                     return Fed {
                         taken,
                         feed: Feed::Closed {
-                            frame: self.progress.over,
+                            frame: self.progress.completed,
                             empty,
                         },
                     };
@@ -188,15 +188,15 @@ impl Lines {
             → Represents self.new (text ++ take result.0 piece.now) }
         ensures answers { (text : List ℕ) → Represents self.old text
             → IsAnswered self.old.progress.settings text (take result.0 piece.now)
-            (feed_of self.new.progress.over result.1) }
+            (feed_of self.new.progress.completed result.1) }
         ensures some { 0 < result.0 }
         ensures within { result.0 ≤ length piece.now }
         ensures range { IsFeedInRange self.old.progress.settings.groups
-            (feed_of self.new.progress.over result.1) }
+            (feed_of self.new.progress.completed result.1) }
         ensures closes { ClosesCycle self.old.progress.kept.cycle
-            (feed_of self.new.progress.over result.1) }
+            (feed_of self.new.progress.completed result.1) }
         ensures next { self.new.progress.kept.cycle ≡ self.old.progress.kept.cycle
-            + length (given (feed_of self.new.progress.over result.1)) }
+            + length (given (feed_of self.new.progress.completed result.1)) }
         ensures bytes { self.new.bytes ≡ self.old.bytes + result.0 }
         ensures settings { self.new.progress.settings ≡ self.old.progress.settings }
         ensures open_still { IsOpen self.new }
@@ -227,14 +227,14 @@ impl Lines {
         ensures represents { (text : List ℕ) → Represents self.old text
             → Represents self.new ((text ++ line.now) ++ 10 ∷ []) }
         ensures answer { (text : List ℕ) → Represents self.old text
-            → feed_of self.new.progress.over result
+            → feed_of self.new.progress.completed result
             ≡ answer_to self.old.progress.settings (text ++ line.now) 10 }
         ensures range { IsFeedInRange self.old.progress.settings.groups
-            (feed_of self.new.progress.over result) }
+            (feed_of self.new.progress.completed result) }
         ensures closes { ClosesCycle self.old.progress.kept.cycle
-            (feed_of self.new.progress.over result) }
+            (feed_of self.new.progress.completed result) }
         ensures next { self.new.progress.kept.cycle ≡ self.old.progress.kept.cycle
-            + length (given (feed_of self.new.progress.over result)) }
+            + length (given (feed_of self.new.progress.completed result)) }
         ensures bytes { self.new.bytes ≡ self.old.bytes + length line.now + 1 }
         ensures settings { self.new.progress.settings ≡ self.old.progress.settings }
         ensures open_still { IsOpen self.new }
@@ -269,14 +269,14 @@ impl Lines {
         ensures represents { (text : List ℕ) → Represents self.old text
             → Represents self.new (text ++ 10 ∷ []) }
         ensures answer { (text : List ℕ) → Represents self.old text
-            → feed_of self.new.progress.over result
+            → feed_of self.new.progress.completed result
             ≡ answer_to self.old.progress.settings text 10 }
         ensures range { IsFeedInRange self.old.progress.settings.groups
-            (feed_of self.new.progress.over result) }
+            (feed_of self.new.progress.completed result) }
         ensures closes { ClosesCycle self.old.progress.kept.cycle
-            (feed_of self.new.progress.over result) }
+            (feed_of self.new.progress.completed result) }
         ensures next { self.new.progress.kept.cycle ≡ self.old.progress.kept.cycle
-            + length (given (feed_of self.new.progress.over result)) }
+            + length (given (feed_of self.new.progress.completed result)) }
         ensures bytes { self.new.bytes ≡ self.old.bytes + 1 }
         ensures settings { self.new.progress.settings ≡ self.old.progress.settings }
         ensures open_still { IsOpen self.new }
@@ -292,7 +292,7 @@ impl Lines {
 
     /// The answer that tells what came to its end.
     fn feed_of(&self, ended: Ended) -> Feed
-        ensures { result ≡ feed_of self.now.progress.over ended }
+        ensures { result ≡ feed_of self.now.progress.completed ended }
     {
         self.progress.feed_of(ended)
     }

@@ -5,7 +5,7 @@ ghost use Rattle.dp_plant.specs.{IsVectorWithin};
 ghost use Rattle.dp_frame.specs.LocalFrame as LocalFrame;
 ghost use Rattle.dp_frame.specs.LocalFrame.{IsCosineAt, IsOrigin, local_of, origin_of};
 
-use dp_fixed::{Q, difference, floor_div, narrow, product, wrap};
+use dp_fixed::{Q, difference, floor_div, less, narrow, product, wrap, wrap_near};
 use dp_plant::{Place, Plant};
 use dp_trig::Trig;
 use std::marker::Model;
@@ -14,10 +14,7 @@ use std::marker::Model;
 const ARC_LENGTH: i64 = 185_200;
 
 /// All degrees of longitude, in 10^-7 minutes.
-const WHOLE_TURN: i128 = 216_000_000_000;
-
-/// Half of them.
-const HALF_TURN: i64 = 108_000_000_000;
+const WHOLE_TURN: i64 = 216_000_000_000;
 
 /// A hundredth of a degree, in 10^-7 minutes.
 const HUNDREDTH: u64 = 6_000_000;
@@ -80,7 +77,7 @@ impl Origin {
 }
 
 /// The place of a latitude and a longitude, seen from an origin's, where parallels have this cosine.
-#[tactic(auto, using(crate::proofs::NearTurns::far_north))]
+#[tactic(auto, using(crate::proofs::FarNorth::far_north))]
 fn place_from(lat0: i64, lon0: i64, cosine: i64, lat: i64, lon: i64) -> Option<Place>
     requires lat0 { unsigned_abs lat0 ≤ 53400000000 }
     requires lon0 { unsigned_abs lon0 ≤ 2 ^ 37 }
@@ -140,30 +137,17 @@ fn shortened(cosine: i64, length: i64) -> i64
     narrow(floor_div(product(cosine, length as i128), Q))
 }
 
-/// How far `lon` is from `lon0`, the short way round. Most differences are less than half a turn as they stand.
-#[tactic(auto, using(crate::proofs::NearTurns::wrap_near))]
+/// How far `lon` is from `lon0`, the short way round.
 fn nearest(lon0: i64, lon: i64) -> i64
     requires origin { unsigned_abs lon0 ≤ 2 ^ 37 }
     ensures value { result ≡ wrap_of (lon -ℤ lon0) (pos 216000000000) }
     ensures bound { unsigned_abs result ≤ 2 ^ 37 }
 {
     if lon.unsigned_abs() <= MOST {
-        let minutes = less(lon, lon0);
-        if -HALF_TURN <= minutes && minutes < HALF_TURN {
-            return minutes;
-        }
+        wrap_near(less(lon, lon0), WHOLE_TURN)
+    } else {
+        narrow(wrap(difference(lon as i128, lon0 as i128), WHOLE_TURN as i128))
     }
-    narrow(wrap(difference(lon as i128, lon0 as i128), WHOLE_TURN))
-}
-
-/// The difference of two angles.
-fn less(a: i64, b: i64) -> i64
-    requires a { unsigned_abs a ≤ 2 ^ 37 }
-    requires b { unsigned_abs b ≤ 2 ^ 37 }
-    ensures value { result ≡ a -ℤ b }
-    ensures bound { unsigned_abs result ≤ 2 ^ 38 }
-{
-    a - b
 }
 
 /// The place with these coordinates, if both lie in the frame.

@@ -31,7 +31,7 @@ pub struct Progress {
     /// The frame of its cycle, or frame 0.
     pub kept: Frame,
     /// The frame that was closed last.
-    pub over: Frame,
+    pub completed: Frame,
 }
 
 impl Progress {
@@ -43,11 +43,11 @@ impl Progress {
         ensures represents { (lines : List (List ℕ)) → ProgressRepresents self.old lines
             → ProgressRepresents self.new (line.now ∷ lines) }
         ensures answer { (lines : List (List ℕ)) → ProgressRepresents self.old lines
-            → feed_of self.new.over result ≡ answer self.old.settings lines (line.now ∷ lines) }
-        ensures range { IsFeedInRange self.old.settings.groups (feed_of self.new.over result) }
+            → feed_of self.new.completed result ≡ answer self.old.settings lines (line.now ∷ lines) }
+        ensures range { IsFeedInRange self.old.settings.groups (feed_of self.new.completed result) }
         ensures next { self.new.kept.cycle
-            ≡ self.old.kept.cycle + length (given (feed_of self.new.over result)) }
-        ensures closes { ClosesCycle self.old.kept.cycle (feed_of self.new.over result) }
+            ≡ self.old.kept.cycle + length (given (feed_of self.new.completed result)) }
+        ensures closes { ClosesCycle self.old.kept.cycle (feed_of self.new.completed result) }
         ensures going { result ≡ Ended.Nothing → self.new.refusal ≡ None }
         ensures sound { IsSoundProgress self.new }
         ensures number { self.new.number ≡ self.old.number + 1 }
@@ -59,7 +59,7 @@ impl Progress {
             Judged::Good(entry) => {
                 self.last = entry.time;
                 self.begun = true;
-                enter(&mut self.kept, &mut self.over, &entry)
+                enter(&mut self.kept, &mut self.completed, &entry)
             }
             Judged::Faulty(kind) => self.refuse(Refusal::Faulty {
                 line: self.number,
@@ -74,12 +74,12 @@ impl Progress {
 
     /// The answer that tells what came to its end.
     pub(crate) fn feed_of(&self, ended: Ended) -> Feed
-        ensures { result ≡ feed_of self.now.over ended }
+        ensures { result ≡ feed_of self.now.completed ended }
     {
         match ended {
             Ended::Nothing => Feed::More,
             Ended::Cycle { empty } => Feed::Closed {
-                frame: self.over,
+                frame: self.completed,
                 empty,
             },
             Ended::Record(refusal) => refusal.told(),
@@ -114,22 +114,22 @@ impl Progress {
 }
 
 /// Counts an entry to the kept frame, or to the one that it opens.
-fn enter(kept: &mut Frame, over: &mut Frame, entry: &Entry) -> Ended
+fn enter(kept: &mut Frame, completed: &mut Frame, entry: &Entry) -> Ended
     requires wire { IsWire 8 entry.now.wire }
     requires room { IsFrameBounded (2 ^ 40 - 1) kept.old }
     ensures kept { (es : List Entry) → kept.old ≡ frame_of (last_cycle es) es → Follows es entry.now
         → kept.new ≡ frame_of entry.now.cycle (entry.now ∷ es) }
     ensures answer { (es : List Entry) → kept.old ≡ frame_of (last_cycle es) es → Follows es entry.now
-        → feed_of over.new result ≡ closed es (entry.now ∷ es) }
+        → feed_of completed.new result ≡ closed es (entry.now ∷ es) }
     ensures bounded { (n : ℕ) → IsFrameBounded n kept.old → IsFrameBounded (n + 1) kept.new }
     ensures range { (groups : ℕ) → IsFrameInRange groups kept.old → IsEntryWithin groups entry.now
-        → IsFrameInRange groups kept.new × IsFeedInRange groups (feed_of over.new result) }
-    ensures next { kept.new.cycle ≡ kept.old.cycle + length (given (feed_of over.new result)) }
-    ensures closes { ClosesCycle kept.old.cycle (feed_of over.new result) }
+        → IsFrameInRange groups kept.new × IsFeedInRange groups (feed_of completed.new result) }
+    ensures next { kept.new.cycle ≡ kept.old.cycle + length (given (feed_of completed.new result)) }
+    ensures closes { ClosesCycle kept.old.cycle (feed_of completed.new result) }
 {
     let cycle = kept.cycle;
     if cycle < entry.cycle {
-        begin(kept, over, entry.cycle);
+        begin(kept, completed, entry.cycle);
         note(kept, entry);
         Ended::Cycle {
             empty: entry.cycle - cycle - 1,
@@ -141,20 +141,20 @@ fn enter(kept: &mut Frame, over: &mut Frame, entry: &Entry) -> Ended
 }
 
 /// Begins the frame of a cycle, and sets the kept one aside.
-fn begin(kept: &mut Frame, over: &mut Frame, cycle: u64)
-    ensures over { over.new ≡ kept.old }
+fn begin(kept: &mut Frame, completed: &mut Frame, cycle: u64)
+    ensures completed { completed.new ≡ kept.old }
     ensures kept { kept.new ≡ no_frame cycle }
     ensures range { cycle < 2 ^ 20 → (groups : ℕ) → IsFrameInRange groups kept.new }
 {
-    set_aside(kept, over);
+    set_aside(kept, completed);
     *kept = empty_frame(cycle);
 }
 
 /// Copies a frame. In a function of its own it is one move, with no copy between.
-fn set_aside(kept: &Frame, over: &mut Frame)
-    ensures { over.new ≡ kept.now }
+fn set_aside(kept: &Frame, completed: &mut Frame)
+    ensures { completed.new ≡ kept.now }
 {
-    *over = *kept;
+    *completed = *kept;
 }
 
 impl Refusal {

@@ -1,3 +1,4 @@
 pub mod Means
 pub mod Hulls
 pub mod Lists
+pub mod Middles

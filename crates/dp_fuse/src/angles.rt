@@ -5,6 +5,10 @@ ghost use Rattle.dp_fixed.specs.{wrap_of};
 ghost use Rattle.dp_fuse.specs.{IsWeighted, fused_angle, present, turn_from, turned_by, weighted_turn};
 
 use crate::weighted::{Weighted, fuse};
+use dp_fixed::wrap_near;
+
+/// 360 degrees in hundredths of a degree.
+const TURN: i64 = 36000;
 
 /// The heading of up to three gyros, in hundredths of a degree, below 36000.
 ///
@@ -69,22 +73,7 @@ fn turn_from(base: u32, angle: u32) -> i64
     ensures value { result ≡ turn_from base angle }
     ensures bound { unsigned_abs result ≤ 18000 }
 {
-    nearest(angle as i64 - base as i64)
-}
-
-/// A difference of two angles, the short way round.
-fn nearest(turn: i64) -> i64
-    requires { unsigned_abs turn < 36000 }
-    ensures value { result ≡ wrap_of turn (pos 36000) }
-    ensures bound { unsigned_abs result ≤ 18000 }
-{
-    if 18000 <= turn {
-        turn - 36000
-    } else if turn < -18000 {
-        turn + 36000
-    } else {
-        turn
-    }
+    wrap_near(angle as i64 - base as i64, TURN)
 }
 
 fn angle(base: u32, turned: Option<i64>) -> Option<u32>
@@ -106,5 +95,5 @@ fn turned_by(base: u32, turned: i64) -> u32
     ensures value { result ≡ turned_by base turned }
     ensures within { result < 36000 }
 {
-    (base as i64 + turned).rem_euclid(36000) as u32
+    (base as i64 + turned).rem_euclid(TURN) as u32
 }

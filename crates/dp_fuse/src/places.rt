@@ -6,8 +6,8 @@ ghost use Rattle.dp_plant.specs.{IsLever, IsMeasuredPlace, IsPair, IsVectorWithi
 ghost use Rattle.dp_fuse.specs.Places.{arm_east, arm_north, fused_place, fused_position, origin_by, origins_by, place_in, place_of, weighted_east, weighted_north, without_lever};
 ghost use Rattle.dp_fuse.specs.Ranges.{IsUsable, IsVerdictWithin, IsWeighted, IsWeightedPlace};
 
-use crate::weighted::{Weighted, fuse, middle};
-use dp_fixed::{Q, floor_div, narrow, product};
+use crate::weighted::{Weighted, fuse};
+use dp_fixed::{Q, floor_div, less, middle, more, narrow, product};
 use dp_plant::{P2, Place, Verdict};
 
 /// Where the vessel is, by how many usable references: the place of its origin in nm, within ±2^44.
@@ -194,15 +194,6 @@ fn without_lever(pair: (i64, i64), lever: P2, at: Place) -> Place
     }
 }
 
-fn less(coordinate: i64, arm: i64) -> i64
-    requires coordinate { unsigned_abs coordinate ≤ 2 ^ 43 }
-    requires arm { unsigned_abs arm ≤ 2 ^ 40 }
-    ensures value { result ≡ coordinate -ℤ arm }
-    ensures bound { unsigned_abs result ≤ 2 ^ 44 }
-{
-    coordinate - arm
-}
-
 /// How far north a lever arm reaches, in nm.
 #[tactic(auto, using(dp_plant::proofs::Pairs::shorts), unfolding(crate::specs::Places::arm_north))]
 fn arm_north(pair: (i64, i64), lever: P2) -> i64
@@ -213,7 +204,7 @@ fn arm_north(pair: (i64, i64), lever: P2) -> i64
 {
     let ahead = turned(pair.0, lever.0);
     let starboard = turned(pair.1, lever.1);
-    nanometres(apart(ahead, starboard))
+    nanometres(less(ahead, starboard))
 }
 
 /// How far east it reaches, in nm.
@@ -226,7 +217,7 @@ fn arm_east(pair: (i64, i64), lever: P2) -> i64
 {
     let ahead = turned(pair.1, lever.0);
     let starboard = turned(pair.0, lever.1);
-    nanometres(joined(ahead, starboard))
+    nanometres(more(ahead, starboard))
 }
 
 /// A part of a lever arm times a part of a sine pair.
@@ -237,24 +228,6 @@ fn turned(share: i64, part: i64) -> i64
     ensures bound { unsigned_abs result ≤ 2 ^ 30 * 500000 }
 {
     narrow(product(share, part as i128))
-}
-
-fn apart(a: i64, b: i64) -> i64
-    requires a { unsigned_abs a ≤ 2 ^ 30 * 500000 }
-    requires b { unsigned_abs b ≤ 2 ^ 30 * 500000 }
-    ensures value { result ≡ a -ℤ b }
-    ensures bound { unsigned_abs result ≤ 2 ^ 30 * 1000000 }
-{
-    a - b
-}
-
-fn joined(a: i64, b: i64) -> i64
-    requires a { unsigned_abs a ≤ 2 ^ 30 * 500000 }
-    requires b { unsigned_abs b ≤ 2 ^ 30 * 500000 }
-    ensures value { result ≡ a +ℤ b }
-    ensures bound { unsigned_abs result ≤ 2 ^ 30 * 1000000 }
-{
-    a + b
 }
 
 /// Millimetres times the scale, in whole nanometres.

@@ -4,7 +4,7 @@ ghost use Rattle.dp_fixed.specs.{mid3_of};
 ghost use Rattle.dp_fuse.specs.Fuse.{fuse, mean_of};
 ghost use Rattle.dp_fuse.specs.Ranges.{IsWeighted};
 
-use dp_fixed::{floor_div, narrow, product, sum};
+use dp_fixed::{floor_div, middle, narrow, product, sum};
 
 /// A number within ±2^44, and how much it counts, from 1 to 2^20.
 #[derive(Clone, Copy, Debug, PartialEq, Eq)]
@@ -28,24 +28,6 @@ pub(crate) fn fuse(a: Option<Weighted>, b: Option<Weighted>, c: Option<Weighted>
         }
         (Some(a), None, None) | (None, Some(a), None) | (None, None, Some(a)) => Some(a.value),
         (None, None, None) => None,
-    }
-}
-
-pub(crate) fn middle(x: i64, y: i64, z: i64) -> i64
-    requires x { unsigned_abs x ≤ 2 ^ 44 }
-    requires y { unsigned_abs y ≤ 2 ^ 44 }
-    requires z { unsigned_abs z ≤ 2 ^ 44 }
-    ensures value { result ≡ mid3_of x y z }
-    ensures bound { unsigned_abs result ≤ 2 ^ 44 }
-{
-    let low = x.min(y);
-    let high = x.max(y);
-    if z <= low {
-        low
-    } else if high <= z {
-        high
-    } else {
-        z
     }
 }
 

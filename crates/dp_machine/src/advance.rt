@@ -11,6 +11,7 @@ use crate::estimates::Estimates;
 use crate::sensed::Sensed;
 use dp_cert::Accepted;
 use dp_cert::laws::{cycle_stays_inside, inside_is_narrow};
+use dp_fixed::more;
 use dp_observer::{plane, yaw};
 use dp_plant::{Gust, Place, PlaneState, Plant, YawState};
 
@@ -68,16 +69,7 @@ fn push_of(demand: [i64; 3], wind: [i64; 3]) -> [i64; 2]
     ensures value { result ≡ push_of demand wind }
     ensures within { IsPush result }
 {
-    [pushed(demand[0], wind[0]), pushed(demand[1], wind[1])]
-}
-
-fn pushed(demand: i64, wind: i64) -> i64
-    requires demand { unsigned_abs demand ≤ 2 ^ 31 }
-    requires wind { unsigned_abs wind ≤ 2 ^ 31 }
-    ensures value { result ≡ demand +ℤ wind }
-    ensures bound { unsigned_abs result ≤ 2 ^ 32 }
-{
-    demand + wind
+    [more(demand[0], wind[0]), more(demand[1], wind[1])]
 }
 
 /// What pushes in yaw.
@@ -87,16 +79,7 @@ fn turning_push(demand: [i64; 3], wind: [i64; 3]) -> i64
     ensures value { result ≡ entry demand 2 +ℤ entry wind 2 }
     ensures within { IsYawPush result }
 {
-    turned(demand[2], wind[2])
-}
-
-fn turned(demand: i64, wind: i64) -> i64
-    requires demand { unsigned_abs demand ≤ 2 ^ 38 }
-    requires wind { unsigned_abs wind ≤ 2 ^ 31 }
-    ensures value { result ≡ demand +ℤ wind }
-    ensures bound { unsigned_abs result ≤ 2 ^ 39 }
-{
-    demand + wind
+    more(demand[2], wind[2])
 }
 
 /// The estimates of the next cycle beside plane and yaw, by what is sensed.

@@ -12,8 +12,8 @@ use Rattle.dp_nav.specs.Decimals.{decimals, is_decimal, is_sound, kept, number, 
 use Rattle.dp_nav.specs.Fields.{◌>>=◌, or_bad, valid_of}
 use Rattle.dp_nav.specs.Gga.{angle, angle_of, coordinate_of, degree_digits, fix_of, is_fix_of, is_negative_of, minutes, most_degrees, negative_letter, positive_letter, quality_of, signed}
 use Rattle.dp_nav.specs.Named.{ComesTo, FixIsNamed, HasSign, IsPointed, NamesCoordinate, NamesPlace, WritesAngle}
-use Rattle.dp_nav.specs.declared.gga.Axis.{Axis}
-use Rattle.dp_nav.specs.declared.gga.Axis.TheVariants.{Latitude, Longitude}
+use Rattle.dp_nav.specs.declared.gga.Coordinate.{Coordinate}
+use Rattle.dp_nav.specs.declared.gga.Coordinate.TheVariants.{Latitude, Longitude}
 use Rattle.dp_nav.specs.declared.reading.Reading.{Reading}
 use Rattle.dp_nav.specs.declared.reading.Reading.TheVariants.{Fix}
 use Rattle.dp_nav.specs.declared.reading.Skip.{Skip}
@@ -82,54 +82,54 @@ taken false n m e = absurd cc
 same_sum : (a b c d k l : ℕ) → a ≡ b → c ≡ d → k ≡ l → (a * 60 + c) * 10 ^ 7 + k ≡ (b * 60 + d) * 10 ^ 7 + l
 same_sum a b c d k l e f g = omega (arith, e, f, g)
 
-angle_read : (axis : Axis) (text : List ℕ) (n : ℕ) → WritesAngle axis text n → angle_of axis text ≡ Some n
+angle_read : (kind : Coordinate) (text : List ℕ) (n : ℕ) → WritesAngle kind text n → angle_of kind text ≡ Some n
 unfolding angle_of is_decimal
-angle_read axis text n w =
+angle_read kind text n w =
     let c = cut_pointed text (w.degrees ++ w.minutes) w.decimals w.whole w.joined in
     let b = both (list_all is_ascii_digit w.degrees) (list_all is_ascii_digit w.minutes) (sym (list_all-append is_ascii_digit w.degrees w.minutes) ∙ w.whole) in
-    let count : length (whole text) ≡ degree_digits axis + 2 = ap length c.0 ∙ omega (arith, length-append w.degrees w.minutes, w.degree_count, w.minute_count) in
+    let count : length (whole text) ≡ degree_digits kind + 2 = ap length c.0 ∙ omega (arith, length-append w.degrees w.minutes, w.degree_count, w.minute_count) in
     let few_degrees : length w.degrees ≤ 18 = omega (arith, w.few, w.minute_count) in
     let few_minutes : length w.minutes ≤ 18 = omega (arith, w.minute_count) in
     let few_decimals : length w.decimals ≤ 18 = omega (arith, w.few, w.minute_count) in
     let few : length (whole text) + length (decimals text) ≤ 20 =
     omega (arith, ap length c.0, ap length c.1, length-append w.degrees w.minutes, w.few) in
-    let d : number (take (degree_digits axis) (whole text)) ≡ place_value w.degrees =
-    ap (λ t. number (take (degree_digits axis) t)) c.0 ∙ (ap number (take_at w.degrees w.minutes (degree_digits axis) w.degree_count) ∙ number_is w.degrees few_degrees b.0) in
-    let m : minutes axis text ≡ place_value w.minutes =
-    ap (λ t. number (drop (degree_digits axis) t)) c.0 ∙ (ap number (drop_at w.degrees w.minutes (degree_digits axis) w.degree_count) ∙ number_is w.minutes few_minutes b.1) in
-    let sum : angle axis text ≡ n =
-    same_sum (number (take (degree_digits axis) (whole text))) (place_value w.degrees) (minutes axis text) (place_value w.minutes) (kept 7 (decimals text)) (kept 7 w.decimals) d m (ap (kept 7) c.1)
+    let d : number (take (degree_digits kind) (whole text)) ≡ place_value w.degrees =
+    ap (λ t. number (take (degree_digits kind) t)) c.0 ∙ (ap number (take_at w.degrees w.minutes (degree_digits kind) w.degree_count) ∙ number_is w.degrees few_degrees b.0) in
+    let m : minutes kind text ≡ place_value w.minutes =
+    ap (λ t. number (drop (degree_digits kind) t)) c.0 ∙ (ap number (drop_at w.degrees w.minutes (degree_digits kind) w.degree_count) ∙ number_is w.minutes few_minutes b.1) in
+    let sum : angle kind text ≡ n =
+    same_sum (number (take (degree_digits kind) (whole text))) (place_value w.degrees) (minutes kind text) (place_value w.minutes) (kept 7 (decimals text)) (kept 7 w.decimals) d m (ap (kept 7) c.1)
     ∙ comes_once (place_value w.degrees * 60 + place_value w.minutes) (length w.decimals) (place_value w.decimals) ((place_value w.degrees * 60 + place_value w.minutes) * 10 ^ 7 + kept 7 w.decimals) n
     (kept_comes (place_value w.degrees * 60 + place_value w.minutes) w.decimals few_decimals w.part) w.value in
     let sound : is_sound (whole text) (decimals text) ≡ true =
     four (nat_lt 0 (length (whole text))) (list_all is_ascii_digit (whole text)) (list_all is_ascii_digit (decimals text)) (nat_le (length (whole text) + length (decimals text)) 20)
     (is_less 0 (length (whole text)) (omega (arith, count))) (ap (list_all is_ascii_digit) c.0 ∙ w.whole) (ap (list_all is_ascii_digit) c.1 ∙ w.part) (is_most (length (whole text) + length (decimals text)) 20 few) in
-    given (is_sound (whole text) (decimals text) && (length (whole text) == degree_digits axis + 2 && (nat_lt (minutes axis text) 60 && nat_le (angle axis text) (most_degrees axis * 600000000)))) (angle axis text) n
-    (four (is_sound (whole text) (decimals text)) (length (whole text) == degree_digits axis + 2) (nat_lt (minutes axis text) 60) (nat_le (angle axis text) (most_degrees axis * 600000000))
-    sound (is_equal (length (whole text)) (degree_digits axis + 2) count) (is_less (minutes axis text) 60 (subst (λ k. k < 60) (sym m) w.below))
-    (is_most (angle axis text) (most_degrees axis * 600000000) (subst (λ k. k ≤ most_degrees axis * 600000000) (sym sum) w.within)))
+    given (is_sound (whole text) (decimals text) && (length (whole text) == degree_digits kind + 2 && (nat_lt (minutes kind text) 60 && nat_le (angle kind text) (most_degrees kind * 600000000)))) (angle kind text) n
+    (four (is_sound (whole text) (decimals text)) (length (whole text) == degree_digits kind + 2) (nat_lt (minutes kind text) 60) (nat_le (angle kind text) (most_degrees kind * 600000000))
+    sound (is_equal (length (whole text)) (degree_digits kind + 2) count) (is_less (minutes kind text) 60 (subst (λ k. k < 60) (sym m) w.below))
+    (is_most (angle kind text) (most_degrees kind * 600000000) (subst (λ k. k ≤ most_degrees kind * 600000000) (sym sum) w.within)))
     sum
 
-angle_written : (axis : Axis) (text : List ℕ) (n : ℕ) → angle_of axis text ≡ Some n → WritesAngle axis text n
+angle_written : (kind : Coordinate) (text : List ℕ) (n : ℕ) → angle_of kind text ≡ Some n → WritesAngle kind text n
 unfolding angle_of is_decimal
-angle_written axis text n e =
-    let t = taken (is_sound (whole text) (decimals text) && (length (whole text) == degree_digits axis + 2 && (nat_lt (minutes axis text) 60 && nat_le (angle axis text) (most_degrees axis * 600000000)))) (angle axis text) n e in
-    let a = all_four (is_sound (whole text) (decimals text)) (length (whole text) == degree_digits axis + 2) (nat_lt (minutes axis text) 60) (nat_le (angle axis text) (most_degrees axis * 600000000)) t.0 in
+angle_written kind text n e =
+    let t = taken (is_sound (whole text) (decimals text) && (length (whole text) == degree_digits kind + 2 && (nat_lt (minutes kind text) 60 && nat_le (angle kind text) (most_degrees kind * 600000000)))) (angle kind text) n e in
+    let a = all_four (is_sound (whole text) (decimals text)) (length (whole text) == degree_digits kind + 2) (nat_lt (minutes kind text) 60) (nat_le (angle kind text) (most_degrees kind * 600000000)) t.0 in
     let s = all_four (nat_lt 0 (length (whole text))) (list_all is_ascii_digit (whole text)) (list_all is_ascii_digit (decimals text)) (nat_le (length (whole text) + length (decimals text)) 20) a.0 in
-    let count : length (whole text) ≡ degree_digits axis + 2 = equal (length (whole text)) (degree_digits axis + 2) a.1 in
+    let count : length (whole text) ≡ degree_digits kind + 2 = equal (length (whole text)) (degree_digits kind + 2) a.1 in
     let few : length (whole text) + length (decimals text) ≤ 20 = most (length (whole text) + length (decimals text)) 20 s.3 in
-    let degrees = take (degree_digits axis) (whole text) in
-    let rest = drop (degree_digits axis) (whole text) in
-    let joined : degrees ++ rest ≡ whole text = take-append-drop (degree_digits axis) (whole text) in
+    let degrees = take (degree_digits kind) (whole text) in
+    let rest = drop (degree_digits kind) (whole text) in
+    let joined : degrees ++ rest ≡ whole text = take-append-drop (degree_digits kind) (whole text) in
     let digits : list_all is_ascii_digit (degrees ++ rest) ≡ true = ap (list_all is_ascii_digit) joined ∙ s.1 in
     let b = both (list_all is_ascii_digit degrees) (list_all is_ascii_digit rest) (sym (list_all-append is_ascii_digit degrees rest) ∙ digits) in
-    let first_count : length degrees ≡ degree_digits axis = length-take-le (degree_digits axis) (whole text) (omega (arith, count)) in
-    let rest_count : length rest ≡ 2 = length-drop (degree_digits axis) (whole text) ∙ omega (arith, count) in
+    let first_count : length degrees ≡ degree_digits kind = length-take-le (degree_digits kind) (whole text) (omega (arith, count)) in
+    let rest_count : length rest ≡ 2 = length-drop (degree_digits kind) (whole text) ∙ omega (arith, count) in
     let d : number degrees ≡ place_value degrees = number_is degrees (omega (arith, first_count, count, few)) b.0 in
-    let m : minutes axis text ≡ place_value rest = number_is rest (omega (arith, rest_count)) b.1 in
+    let m : minutes kind text ≡ place_value rest = number_is rest (omega (arith, rest_count)) b.1 in
     let comes = kept_comes (place_value degrees * 60 + place_value rest) (decimals text) (omega (arith, count, few)) s.2 in
     let sum : (place_value degrees * 60 + place_value rest) * 10 ^ 7 + kept 7 (decimals text) ≡ n =
-    sym (same_sum (number degrees) (place_value degrees) (minutes axis text) (place_value rest) (kept 7 (decimals text)) (kept 7 (decimals text)) d m refl) ∙ t.1 in
+    sym (same_sum (number degrees) (place_value degrees) (minutes kind text) (place_value rest) (kept 7 (decimals text)) (kept 7 (decimals text)) d m refl) ∙ t.1 in
     record {
       degrees = degrees;
       minutes = rest;
@@ -140,14 +140,14 @@ angle_written axis text n e =
       degree_count = first_count;
       minute_count = rest_count;
       few = omega (arith, first_count, rest_count, count, few);
-      below = subst (λ k. k < 60) m (less (minutes axis text) 60 a.2);
+      below = subst (λ k. k < 60) m (less (minutes kind text) 60 a.2);
       value = subst (ComesTo (place_value degrees * 60 + place_value rest) (length (decimals text)) (place_value (decimals text))) sum comes;
-      within = subst (λ k. k ≤ most_degrees axis * 600000000) t.1 (most (angle axis text) (most_degrees axis * 600000000) a.3);
+      within = subst (λ k. k ≤ most_degrees kind * 600000000) t.1 (most (angle kind text) (most_degrees kind * 600000000) a.3);
     }
 
 -- ---- letters
 
-sign_read : (axis : Axis) (letter : List ℕ) (n : ℕ) (x : ℤ) → HasSign axis letter n x → (negative : Bool) × (is_negative_of axis letter ≡ Some negative) × (signed negative n ≡ x)
+sign_read : (kind : Coordinate) (letter : List ℕ) (n : ℕ) (x : ℤ) → HasSign kind letter n x → (negative : Bool) × (is_negative_of kind letter ≡ Some negative) × (signed negative n ≡ x)
 sign_read Latitude letter n x h =
     elim h [
       | inl s ↦ (false, ap (is_negative_of Latitude) s.0, sym s.1)
@@ -159,42 +159,42 @@ sign_read Longitude letter n x h =
       | inr s ↦ (true, ap (is_negative_of Longitude) s.0, sym s.1)
     ]
 
-sign_written : (axis : Axis) (letter : List ℕ) (negative : Bool) (n : ℕ) → is_negative_of axis letter ≡ Some negative → HasSign axis letter n (signed negative n)
-sign_written axis [] negative n e = absurd cc
-sign_written axis (c ∷ d ∷ more) negative n e = absurd cc
-sign_written axis (c ∷ []) negative n e = by_test (c == positive_letter axis) (c == negative_letter axis) refl refl e
+sign_written : (kind : Coordinate) (letter : List ℕ) (negative : Bool) (n : ℕ) → is_negative_of kind letter ≡ Some negative → HasSign kind letter n (signed negative n)
+sign_written kind [] negative n e = absurd cc
+sign_written kind (c ∷ d ∷ more) negative n e = absurd cc
+sign_written kind (c ∷ []) negative n e = by_test (c == positive_letter kind) (c == negative_letter kind) refl refl e
   where
-    by_test : (p q : Bool) → (c == positive_letter axis) ≡ p → (c == negative_letter axis) ≡ q
-        → (if p then Some false else if q then Some true else None) ≡ Some negative → HasSign axis (c ∷ []) n (signed negative n)
+    by_test : (p q : Bool) → (c == positive_letter kind) ≡ p → (c == negative_letter kind) ≡ q
+        → (if p then Some false else if q then Some true else None) ≡ Some negative → HasSign kind (c ∷ []) n (signed negative n)
     by_test true q is other e =
         let sign : false ≡ negative = cc in
-        inl (ap (λ b. b ∷ []) (equal c (positive_letter axis) is), ap (λ b. signed b n) (sym sign))
+        inl (ap (λ b. b ∷ []) (equal c (positive_letter kind) is), ap (λ b. signed b n) (sym sign))
     by_test false true other is e =
         let sign : true ≡ negative = cc in
-        inr (ap (λ b. b ∷ []) (equal c (negative_letter axis) is), ap (λ b. signed b n) (sym sign))
+        inr (ap (λ b. b ∷ []) (equal c (negative_letter kind) is), ap (λ b. signed b n) (sym sign))
     by_test false false none other e = absurd cc
 
 -- ---- coordinates
 
-abbrev coordinate_by : Axis → ℕ → List ℕ → List ℕ → Result ℤ Skip
-coordinate_by axis k text letter =
-    or_bad k (angle_of axis text) >>= λ angle. (or_bad (k + 1) (is_negative_of axis letter) >>= λ negative. Ok (signed negative angle))
+abbrev coordinate_by : Coordinate → ℕ → List ℕ → List ℕ → Result ℤ Skip
+coordinate_by kind k text letter =
+    or_bad k (angle_of kind text) >>= λ angle. (or_bad (k + 1) (is_negative_of kind letter) >>= λ negative. Ok (signed negative angle))
 
-coordinate_read : (axis : Axis) (k : ℕ) (text letter : List ℕ) (x : ℤ) → NamesCoordinate axis text letter x → coordinate_by axis k text letter ≡ Ok x
-coordinate_read axis k text letter x s =
-    let sign = sign_read axis letter s.size x s.sign in
-    onward (or_bad k (angle_of axis text)) (λ angle. (or_bad (k + 1) (is_negative_of axis letter) >>= λ negative. Ok (signed negative angle))) s.size (Ok x)
-    (ap (or_bad k) (angle_read axis text s.size s.angle))
-    (onward (or_bad (k + 1) (is_negative_of axis letter)) (λ negative. Ok (signed negative s.size)) sign.0 (Ok x) (ap (or_bad (k + 1)) sign.1) (ap (λ y. Ok y) sign.2))
+coordinate_read : (kind : Coordinate) (k : ℕ) (text letter : List ℕ) (x : ℤ) → NamesCoordinate kind text letter x → coordinate_by kind k text letter ≡ Ok x
+coordinate_read kind k text letter x s =
+    let sign = sign_read kind letter s.size x s.sign in
+    onward (or_bad k (angle_of kind text)) (λ angle. (or_bad (k + 1) (is_negative_of kind letter) >>= λ negative. Ok (signed negative angle))) s.size (Ok x)
+    (ap (or_bad k) (angle_read kind text s.size s.angle))
+    (onward (or_bad (k + 1) (is_negative_of kind letter)) (λ negative. Ok (signed negative s.size)) sign.0 (Ok x) (ap (or_bad (k + 1)) sign.1) (ap (λ y. Ok y) sign.2))
 
-coordinate_written : (axis : Axis) (k : ℕ) (text letter : List ℕ) (x : ℤ) → coordinate_by axis k text letter ≡ Ok x → NamesCoordinate axis text letter x
-coordinate_written axis k text letter x e =
-    let n = bound (or_bad k (angle_of axis text)) (λ angle. (or_bad (k + 1) (is_negative_of axis letter) >>= λ negative. Ok (signed negative angle))) x e in
-    let s = bound (or_bad (k + 1) (is_negative_of axis letter)) (λ negative. Ok (signed negative n.0)) x n.2 in
+coordinate_written : (kind : Coordinate) (k : ℕ) (text letter : List ℕ) (x : ℤ) → coordinate_by kind k text letter ≡ Ok x → NamesCoordinate kind text letter x
+coordinate_written kind k text letter x e =
+    let n = bound (or_bad k (angle_of kind text)) (λ angle. (or_bad (k + 1) (is_negative_of kind letter) >>= λ negative. Ok (signed negative angle))) x e in
+    let s = bound (or_bad (k + 1) (is_negative_of kind letter)) (λ negative. Ok (signed negative n.0)) x n.2 in
     record {
       size = n.0;
-      angle = angle_written axis text n.0 (not_bad k (angle_of axis text) n.0 n.1);
-      sign = subst (HasSign axis letter n.0) (ok_is s.2) (sign_written axis letter s.0 n.0 (not_bad (k + 1) (is_negative_of axis letter) s.0 s.1));
+      angle = angle_written kind text n.0 (not_bad k (angle_of kind text) n.0 n.1);
+      sign = subst (HasSign kind letter n.0) (ok_is s.2) (sign_written kind letter s.0 n.0 (not_bad (k + 1) (is_negative_of kind letter) s.0 s.1));
     }
 
 -- ---- the quality

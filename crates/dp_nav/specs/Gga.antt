@@ -2,8 +2,8 @@
 use Rattle.std.specs.Prelude.{ℕ, ◌+◌, ◌*◌, ◌^◌, List, [], ◌∷◌, Bool, true, false, ◌==◌, ◌&&◌, ◌||◌, nat_lt, nat_le, if◌then◌else◌, length, take, drop, ℤ, pos, neg_ℤ, Option, Some, None, Result, Ok}
 use Rattle.dp_nav.specs.Fields.{◌>>=◌, or_bad, field, valid_of}
 use Rattle.dp_nav.specs.Decimals.{whole, decimals, is_decimal, number, kept}
-use Rattle.dp_nav.specs.declared.gga.Axis.{Axis}
-use Rattle.dp_nav.specs.declared.gga.Axis.TheVariants.{Latitude, Longitude}
+use Rattle.dp_nav.specs.declared.gga.Coordinate.{Coordinate}
+use Rattle.dp_nav.specs.declared.gga.Coordinate.TheVariants.{Latitude, Longitude}
 use Rattle.dp_nav.specs.declared.reading.Reading.{Reading}
 use Rattle.dp_nav.specs.declared.reading.Reading.TheVariants as reading
 use Rattle.dp_nav.specs.declared.reading.Skip.{Skip}
@@ -23,60 +23,60 @@ quality_of fields = do
   valid_of is_fix
 
 -- how many digits the degrees have
-abbrev pub degree_digits : Axis → ℕ
+abbrev pub degree_digits : Coordinate → ℕ
 degree_digits Latitude = 2
 degree_digits Longitude = 3
 
 -- the last degree
-abbrev pub most_degrees : Axis → ℕ
+abbrev pub most_degrees : Coordinate → ℕ
 most_degrees Latitude = 90
 most_degrees Longitude = 180
 
 -- `N` and `E`
-abbrev pub positive_letter : Axis → ℕ
+abbrev pub positive_letter : Coordinate → ℕ
 positive_letter Latitude = 78
 positive_letter Longitude = 69
 
 -- `S` and `W`
-abbrev pub negative_letter : Axis → ℕ
+abbrev pub negative_letter : Coordinate → ℕ
 negative_letter Latitude = 83
 negative_letter Longitude = 87
 
 -- the digits of the minutes before the point
-abbrev pub minutes : Axis → List ℕ → ℕ
-minutes axis text = number (drop (degree_digits axis) (whole text))
+abbrev pub minutes : Coordinate → List ℕ → ℕ
+minutes kind text = number (drop (degree_digits kind) (whole text))
 
 -- degrees and minutes as a whole number of 10^-7 minute
-abbrev pub angle : Axis → List ℕ → ℕ
-angle axis text =
-    (number (take (degree_digits axis) (whole text)) * 60 + minutes axis text) * 10 ^ 7 + kept 7
+abbrev pub angle : Coordinate → List ℕ → ℕ
+angle kind text =
+    (number (take (degree_digits kind) (whole text)) * 60 + minutes kind text) * 10 ^ 7 + kept 7
     (decimals text)
 
 -- `ddmm.mm..` or `dddmm.mm..` with minutes below 60, at most 90 or 180 degrees
-unfoldable pub angle_of : Axis → List ℕ → Option ℕ
-angle_of axis text =
-    if is_decimal text && (length (whole text) == degree_digits axis + 2
-    && (nat_lt (minutes axis text) 60 && nat_le (angle axis text) (most_degrees axis * 600000000)))
-    then Some (angle axis text) else None
+unfoldable pub angle_of : Coordinate → List ℕ → Option ℕ
+angle_of kind text =
+    if is_decimal text && (length (whole text) == degree_digits kind + 2
+    && (nat_lt (minutes kind text) 60 && nat_le (angle kind text) (most_degrees kind * 600000000)))
+    then Some (angle kind text) else None
 
 -- south and west are negative
-abbrev pub is_negative_of : Axis → List ℕ → Option Bool
-is_negative_of axis (letter ∷ []) =
-    if letter == positive_letter axis then Some false
-    else if letter == negative_letter axis then Some true else None
-is_negative_of axis text = None
+abbrev pub is_negative_of : Coordinate → List ℕ → Option Bool
+is_negative_of kind (letter ∷ []) =
+    if letter == positive_letter kind then Some false
+    else if letter == negative_letter kind then Some true else None
+is_negative_of kind text = None
 
 abbrev pub signed : Bool → ℕ → ℤ
 signed false n = pos n
 signed true n = neg_ℤ (pos n)
 
 -- the angle of field k with the sign of the field after it
-unfoldable pub coordinate_of : Axis → ℕ → List (List ℕ) → Result ℤ Skip
-coordinate_of axis k fields = do
+unfoldable pub coordinate_of : Coordinate → ℕ → List (List ℕ) → Result ℤ Skip
+coordinate_of kind k fields = do
   text ← field k fields
-  angle ← or_bad k (angle_of axis text)
+  angle ← or_bad k (angle_of kind text)
   letter ← field (k + 1) fields
-  is_negative ← or_bad (k + 1) (is_negative_of axis letter)
+  is_negative ← or_bad (k + 1) (is_negative_of kind letter)
   Ok (signed is_negative angle)
 
 -- the fix of the fields

@@ -4,8 +4,8 @@ use Rattle.std.specs.List.{list_all}
 use Rattle.std.specs.Char.{is_ascii_digit}
 use Rattle.dp_text.specs.Laws.{place_value}
 use Rattle.dp_nav.specs.Gga.{degree_digits, fix_of, most_degrees, negative_letter, positive_letter}
-use Rattle.dp_nav.specs.declared.gga.Axis.{Axis}
-use Rattle.dp_nav.specs.declared.gga.Axis.TheVariants.{Latitude, Longitude}
+use Rattle.dp_nav.specs.declared.gga.Coordinate.{Coordinate}
+use Rattle.dp_nav.specs.declared.gga.Coordinate.TheVariants.{Latitude, Longitude}
 use Rattle.dp_nav.specs.declared.reading.Reading.{Reading}
 use Rattle.dp_nav.specs.declared.reading.Reading.TheVariants.{Fix}
 
@@ -24,32 +24,32 @@ pub record ComesTo (whole k value n : ℕ) : Type 0 where
 
 -- a text writes an angle of n times 10^-7 minute: two or three digits of degrees, two digits of
 -- minutes, which are below 60, and perhaps a point and decimals of the minute
-pub record WritesAngle (axis : Axis) (text : List ℕ) (n : ℕ) : Type 0 where
+pub record WritesAngle (kind : Coordinate) (text : List ℕ) (n : ℕ) : Type 0 where
   pub degrees : List ℕ
   pub minutes : List ℕ
   pub decimals : List ℕ
   pub joined : IsPointed text (degrees ++ minutes) decimals
   pub whole : list_all is_ascii_digit (degrees ++ minutes) ≡ true
   pub part : list_all is_ascii_digit decimals ≡ true
-  pub degree_count : length degrees ≡ degree_digits axis
+  pub degree_count : length degrees ≡ degree_digits kind
   pub minute_count : length minutes ≡ 2
   pub few : length degrees + length minutes + length decimals ≤ 20
   pub below : place_value minutes < 60
   pub value : ComesTo (place_value degrees * 60 + place_value minutes) (length decimals)
       (place_value decimals) n
-  pub within : n ≤ most_degrees axis * 600000000
+  pub within : n ≤ most_degrees kind * 600000000
 
 -- the sign is that of a letter: `N` or `E`, `S` or `W`
-abbrev pub HasSign : Axis → List ℕ → ℕ → ℤ → Type 0
-HasSign axis letter n x =
-    ((letter ≡ positive_letter axis ∷ []) × (x ≡ pos n))
-    ⊎ ((letter ≡ negative_letter axis ∷ []) × (x ≡ neg_ℤ (pos n)))
+abbrev pub HasSign : Coordinate → List ℕ → ℕ → ℤ → Type 0
+HasSign kind letter n x =
+    ((letter ≡ positive_letter kind ∷ []) × (x ≡ pos n))
+    ⊎ ((letter ≡ negative_letter kind ∷ []) × (x ≡ neg_ℤ (pos n)))
 
 -- an angle and a letter name a coordinate
-pub record NamesCoordinate (axis : Axis) (text letter : List ℕ) (x : ℤ) : Type 0 where
+pub record NamesCoordinate (kind : Coordinate) (text letter : List ℕ) (x : ℤ) : Type 0 where
   pub size : ℕ
-  pub angle : WritesAngle axis text size
-  pub sign : HasSign axis letter size x
+  pub angle : WritesAngle kind text size
+  pub sign : HasSign kind letter size x
 
 -- fields name a place: latitude and longitude in fields 2 to 5, and a quality of 1 to 5 in field 6
 pub record NamesPlace (fields : List (List ℕ)) (lat lon : ℤ) : Type 0 where

@@ -40,7 +40,7 @@ const DEGREE: u64 = 60 * MINUTE;
 
 /// A coordinate of a fix.
 #[derive(Clone, Copy)]
-pub(crate) enum Axis {
+pub(crate) enum Coordinate {
     Latitude,
     Longitude,
 }
@@ -52,8 +52,8 @@ pub(crate) fn fix(fields: &[&[u8]]) -> Result<Reading, Skip>
     ensures within { IfOk result IsReadingWithin }
 {
     check_quality(fields)?;
-    let lat = Axis::Latitude.coordinate(fields, 2)?;
-    let lon = Axis::Longitude.coordinate(fields, 4)?;
+    let lat = Coordinate::Latitude.read(fields, 2)?;
+    let lon = Coordinate::Longitude.read(fields, 4)?;
     Ok(Reading::Fix { lat, lon })
 }
 
@@ -76,10 +76,10 @@ fn is_fix(quality: &[u8]) -> Option<bool>
     }
 }
 
-impl Axis {
+impl Coordinate {
     /// The coordinate of the angle in field `index` and the letter in the field after it.
     #[tactic(auto, unfolding(crate::specs::Gga::coordinate_of))]
-    fn coordinate(self, fields: &[&[u8]], index: usize) -> Result<i64, Skip>
+    fn read(self, fields: &[&[u8]], index: usize) -> Result<i64, Skip>
         requires from_one { 1 ≤ index }
         requires few { index ≤ 24 }
         ensures value { result ≡ Gga.coordinate_of self index (texts_of fields.now) }
@@ -118,8 +118,8 @@ impl Axis {
         ensures few { result ≤ 3 }
     {
         match self {
-            Axis::Latitude => 2,
-            Axis::Longitude => 3,
+            Coordinate::Latitude => 2,
+            Coordinate::Longitude => 3,
         }
     }
 
@@ -129,8 +129,8 @@ impl Axis {
         ensures bound { result ≤ 180 }
     {
         match self {
-            Axis::Latitude => 90,
-            Axis::Longitude => 180,
+            Coordinate::Latitude => 90,
+            Coordinate::Longitude => 180,
         }
     }
 
@@ -139,8 +139,8 @@ impl Axis {
         ensures { result ≡ Gga.is_negative_of self letter.now }
     {
         match (self, letter) {
-            (Axis::Latitude, [b'N']) | (Axis::Longitude, [b'E']) => Some(false),
-            (Axis::Latitude, [b'S']) | (Axis::Longitude, [b'W']) => Some(true),
+            (Coordinate::Latitude, [b'N']) | (Coordinate::Longitude, [b'E']) => Some(false),
+            (Coordinate::Latitude, [b'S']) | (Coordinate::Longitude, [b'W']) => Some(true),
             _ => None,
         }
     }

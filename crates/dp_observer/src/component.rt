@@ -5,7 +5,7 @@ ghost use Rattle.dp_plant.specs.declared.plane.Component.{Component};
 ghost use Rattle.dp_plant.specs.{IsComponentWithin, IsObserverGains, component_next};
 
 use crate::motion::{bias_next, place_next, velocity_next};
-use dp_fixed::{Q, floor_div, narrow, product, sum};
+use dp_fixed::{Q, floor_div, less, narrow, product, sum};
 use dp_plant::{Component, Gains};
 
 /// One component a cycle later.
@@ -36,15 +36,6 @@ fn offset(x: Component, y: i64) -> i128
     ensures bound { unsigned_abs result ≤ 2 ^ 58 }
 {
     less(less(y, x.eta), x.wave_q) as i128
-}
-
-fn less(a: i64, b: i64) -> i64
-    requires a { unsigned_abs a ≤ 2 ^ 57 }
-    requires b { unsigned_abs b ≤ 2 ^ 56 }
-    ensures value { result ≡ a -ℤ b }
-    ensures bound { unsigned_abs result ≤ unsigned_abs a + unsigned_abs b }
-{
-    a - b
 }
 
 /// A wave state a cycle later, by its row of the filter's matrix and its gain on the offset. Where a plant has no wave filter, there

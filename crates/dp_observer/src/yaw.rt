@@ -6,14 +6,11 @@ ghost use Rattle.dp_plant.specs.declared.yaw.YawState.{YawState};
 ghost use Rattle.dp_plant.specs.{IsMeasuredHeading, IsYawGains, IsYawPush, IsYawWithin, turn, yaw_next};
 
 use crate::motion::{bias_next, place_next, velocity_next};
-use dp_fixed::{difference, narrow, product, wrap};
+use dp_fixed::{less, narrow, product, wrap_near};
 use dp_plant::{YawGains, YawState};
 
 /// 360 degrees in nanodegrees.
-const TURN: i128 = 360_000_000_000;
-
-/// 180 degrees in nanodegrees.
-const HALF_TURN: i128 = 180_000_000_000;
+const TURN: i64 = 360_000_000_000;
 
 /// Takes one cycle: the measured heading in hundredths of a degree, if there is one, and what pushes in yaw, the demand and the wind
 /// together, in nanodegrees per cycle squared, positive clockwise. Each number of the next state has to lie within ±2^56.
@@ -55,41 +52,27 @@ fn offset(x: &YawState, h: u32) -> i128
     ensures value { result ≡ wrap_of (pos (h * 10 ^ 7) -ℤ x.now.psi) turn }
     ensures bound { unsigned_abs result ≤ 2 ^ 38 }
 {
-    nearest(difference(nanodegrees(h), x.psi as i128))
-}
-
-/// An angle, the nearer way round. Most offsets are less than half a turn as they stand.
-#[tactic(auto, using(crate::proofs::NearTurns::wrap_near))]
-fn nearest(angle: i128) -> i128
-    requires { unsigned_abs angle ≤ 2 ^ 58 }
-    ensures value { result ≡ wrap_of angle turn }
-    ensures bound { unsigned_abs result ≤ 2 ^ 38 }
-{
-    if -HALF_TURN <= angle && angle < HALF_TURN {
-        angle
-    } else {
-        wrap(angle, TURN)
-    }
+    wrap_near(less(nanodegrees(h), x.psi), TURN) as i128
 }
 
 /// A heading in nanodegrees.
-fn nanodegrees(h: u32) -> i128
+fn nanodegrees(h: u32) -> i64
     requires { IsMeasuredHeading h }
     ensures value { result ≡ pos (h * 10 ^ 7) }
     ensures bound { unsigned_abs result ≤ 2 ^ 39 }
 {
-    h as i128 * 10_000_000
+    h as i64 * 10_000_000
 }
 
 /// A heading, brought to the turn from 0 on, where most are as they stand.
-#[tactic(auto, using(crate::proofs::NearTurns::rem_small))]
+#[tactic(auto, using(dp_fixed::proofs::NearTurns::rem_small))]
 fn turned(psi: i128) -> i128
     ensures { result ≡ int_rem_euclid psi turn }
 {
-    if 0 <= psi && psi < TURN {
+    if 0 <= psi && psi < TURN as i128 {
         psi
     } else {
-        psi.rem_euclid(TURN)
+        psi.rem_euclid(TURN as i128)
     }
 }
 

@@ -1,4 +1,3 @@
 pub mod AxisAnswers
 pub mod AxisRanges
 pub mod ThreeAnswers
-pub mod NearTurns

@@ -6,14 +6,11 @@ ghost use Rattle.dp_pid.specs.Axis.{IsAlongWithin, IsTurnWithin};
 ghost use Rattle.dp_pid.specs.Body.{surge_of, sway_of, yaw_of};
 
 use crate::axis::Along;
-use dp_fixed::{difference, narrow, product, sum, wrap};
+use dp_fixed::{difference, less, product, sum, wrap_near};
 use dp_plant::{Place, PlaneState, Setpoint, YawState};
 
 /// 360 degrees in nanodegrees.
-const TURN: i128 = 360_000_000_000;
-
-/// 180 degrees in nanodegrees.
-const HALF_TURN: i64 = 180_000_000_000;
+const TURN: i64 = 360_000_000_000;
 
 /// What the plane's state is along surge and sway.
 #[derive(Clone, Copy)]
@@ -96,32 +93,8 @@ pub(crate) fn in_yaw(setpoint: &Setpoint, x: &YawState) -> Along
     ensures within { IsTurnWithin result }
 {
     Along {
-        error: nearest(turned(x.psi, setpoint.psi)) as i128,
+        error: wrap_near(less(x.psi, setpoint.psi), TURN) as i128,
         velocity: x.rate as i128,
         bias: x.beta as i128,
-    }
-}
-
-/// What is between two headings.
-fn turned(to: i64, from: i64) -> i64
-    requires to { unsigned_abs to ≤ 2 ^ 56 }
-    requires from { unsigned_abs from ≤ 2 ^ 56 }
-    ensures value { result ≡ to -ℤ from }
-    ensures bound { unsigned_abs result ≤ 2 ^ 57 }
-{
-    to - from
-}
-
-/// An angle, the nearer way round. Most errors are less than half a turn as they stand.
-#[tactic(auto, using(crate::proofs::NearTurns::wrap_near))]
-fn nearest(angle: i64) -> i64
-    requires { unsigned_abs angle ≤ 2 ^ 57 }
-    ensures value { result ≡ wrap_of angle turn }
-    ensures bound { unsigned_abs result ≤ 2 ^ 38 }
-{
-    if -HALF_TURN <= angle && angle < HALF_TURN {
-        angle
-    } else {
-        narrow(wrap(angle as i128, TURN))
     }
 }

@@ -4,7 +4,7 @@
 //! gives its thruster. A [`Plant`] is a vessel with the limits, thrusters, cases and gains by which it is controlled; [`Plant::copy`]
 //! answers an equal one and takes no memory. Its numbers are within the ranges of a plant file, but for those of the gains, which are
 //! judged with the certificate: that is a fact of the type, over the parts in `specs/PlantRanges`, over a plant in `specs/SoundPlant`,
-//! and `plant_within` of `proofs/PlantFacts` hands it to the crates above. [`samples`] has two plants for tests and trials.
+//! and `plant_within` of `proofs/PlantFacts` hands it to the crates above.
 //!
 //! [`plant_of`] reads a plant file, a TOML document. `specs/PlantFile` is the table of its keys, in their order, with the range of each
 //! and what becomes of it; `specs/Keys` has how one key is judged: first whether it is there, then its kind, then its range. The answer
@@ -35,7 +35,6 @@ mod place;
 mod plane;
 mod plant;
 mod references;
-pub mod samples;
 mod thrusters;
 mod voting;
 mod wind;

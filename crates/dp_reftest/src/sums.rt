@@ -5,7 +5,7 @@ ghost use Rattle.dp_reftest.specs.Running.{pair};
 ghost use Rattle.dp_reftest.specs.Totals.{AreSums, is_same, square_of};
 ghost use Rattle.dp_reftest.specs.Verdict.{distance, is_jump};
 
-use dp_fixed::{difference, sum};
+use dp_fixed::{difference, less, more, sum};
 use dp_plant::Place;
 
 /// The sums of a window: how many samples, the sums of their north and of their east parts in nm, the sum of the squares of all these
@@ -105,7 +105,7 @@ fn exchanged(total: i128, part: i64, out: i64) -> i128
     requires out { unsigned_abs out ≤ 2 ^ 43 }
     ensures { result ≡ total +ℤ (part -ℤ out) }
 {
-    total + (part - out) as i128
+    total + less(part, out) as i128
 }
 
 /// How far the squares of two places' parts are apart.
@@ -126,24 +126,6 @@ fn square_apart(a: i64, b: i64) -> i128
     ensures bound { unsigned_abs result ≤ 2 ^ 88 }
 {
     wide_product(less(a, b), more(a, b))
-}
-
-fn less(a: i64, b: i64) -> i64
-    requires a { unsigned_abs a ≤ 2 ^ 43 }
-    requires b { unsigned_abs b ≤ 2 ^ 43 }
-    ensures value { result ≡ a -ℤ b }
-    ensures bound { unsigned_abs result ≤ 2 ^ 44 }
-{
-    a - b
-}
-
-fn more(a: i64, b: i64) -> i64
-    requires a { unsigned_abs a ≤ 2 ^ 43 }
-    requires b { unsigned_abs b ≤ 2 ^ 43 }
-    ensures value { result ≡ a +ℤ b }
-    ensures bound { unsigned_abs result ≤ 2 ^ 44 }
-{
-    a + b
 }
 
 fn wide_product(a: i64, b: i64) -> i128

@@ -1,7 +1,7 @@
 -- One more line in a draft.
 use Rattle.std.proofs.Common.{◌≡◌, ℕ, ◌+◌, List, ◌∷◌, Some, None, refl, arith}
 use Rattle.dp_script.specs.declared.draft.Draft.{Draft}
-use Rattle.dp_script.specs.declared.entry.Entry.{Entry}
+use Rattle.dp_script.specs.declared.instruction.Instruction.{Instruction}
 use Rattle.dp_script.specs.declared.fault.ScriptFault.TheVariants.{Line}
 use Rattle.dp_script.specs.declared.fault.ScriptKind.{ScriptKind}
 use Rattle.dp_script.specs.Drafts.{IsDraftOf}
@@ -17,10 +17,10 @@ heard_skip draft new line before heard said good number count last = record {
   clean = rw (heard.clean, good) refl;
 }
 
-pub heard_entry : (draft new : Draft) (line : List ℕ) (before : List (List ℕ)) (entry : Entry) → IsDraftOf draft before → said_by line ≡ Some entry → fault_of before line ≡ None
-    → new.number ≡ draft.number + 1 → new.count ≡ draft.count + 1 → new.last ≡ entry.cycle → IsDraftOf new (line ∷ before)
+pub heard_instruction : (draft new : Draft) (line : List ℕ) (before : List (List ℕ)) (instruction : Instruction) → IsDraftOf draft before → said_by line ≡ Some instruction → fault_of before line ≡ None
+    → new.number ≡ draft.number + 1 → new.count ≡ draft.count + 1 → new.last ≡ instruction.cycle → IsDraftOf new (line ∷ before)
 unfolding first_fault
-heard_entry draft new line before entry heard said good number count last = record {
+heard_instruction draft new line before instruction heard said good number count last = record {
   number = omega (arith, heard.number);
   count = rw said (omega (arith, heard.count));
   last = rw said last;

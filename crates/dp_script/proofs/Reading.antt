@@ -8,7 +8,7 @@ use Rattle.dp_script.specs.declared.timed_act.TimedAct.{TimedAct}
 use Rattle.dp_script.specs.declared.fault.ScriptFault.{ScriptFault}
 use Rattle.dp_script.specs.Drafts.{IsDraftOf}
 use Rattle.dp_script.specs.TimedActs.{timed_acts_of, timed_acts_by}
-use Rattle.dp_script.specs.Faults.{said_by, entries_of, first_fault}
+use Rattle.dp_script.specs.Faults.{said_by, instructions_of, first_fault}
 
 -- a draft of all lines but those that are left
 pub record Stands (draft : Draft) (left all : List (List ℕ)) : Type 0 where
@@ -45,7 +45,7 @@ pub stands_end : (draft : Draft) (left all : List (List ℕ)) → Stands draft l
 stands_end draft left all stands e = rw (← stands.rest, e) stands.heard.clean
 
 timed_acts_by-append : (xs ys : List (List ℕ)) → timed_acts_by (xs ++ ys) ≡ timed_acts_by xs ++ timed_acts_by ys
-timed_acts_by-append xs ys = rw (filter_map-append said_by xs ys) (flat_map-append timed_acts_of (entries_of xs) (entries_of ys))
+timed_acts_by-append xs ys = rw (filter_map-append said_by xs ys) (flat_map-append timed_acts_of (instructions_of xs) (instructions_of ys))
 
 -- what a line says goes from what is left to what is done
 pub timed_acts_more : (done new all : List TimedAct) (line : List ℕ) (left rest : List (List ℕ)) → done ++ timed_acts_by left ≡ all → left ≡ line ∷ rest → new ≡ done ++ timed_acts_by (line ∷ []) → new ++ timed_acts_by rest ≡ all

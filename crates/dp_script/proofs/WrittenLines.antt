@@ -1,4 +1,4 @@
--- A line of a script says an entry exactly where it is read as that entry.
+-- A line of a script says an instruction exactly where it is read as that instruction.
 use Rattle.std.proofs.Common.{◌≡◌, ℕ, ◌*◌, ◌^◌, ◌<◌, ◌≤◌, ◌⊎◌, inl, inr, Bool, true, false, List, [], ◌∷◌, length, Option, Some, None, Result, Ok, Err, ◌∙◌, refl, sym, ap, subst, arith}
 use Rattle.std.specs.Prelude.{if◌then◌else◌, ◌&&◌, ◌==◌, ◌%◌, ◌≢◌, nat_le, nat_lt, ℤ, unsigned_abs, codes}
 use Rattle.std.specs.List.{join_with_byte, list_all}
@@ -25,15 +25,15 @@ use Rattle.dp_script.specs.declared.command.Single.{Single}
 use Rattle.dp_script.specs.declared.command.Single.TheVariants as single
 use Rattle.dp_script.specs.declared.command.Exchange.{Exchange}
 use Rattle.dp_script.specs.declared.command.Exchange.TheVariants as exchange
-use Rattle.dp_script.specs.declared.entry.Acts.{Acts}
-use Rattle.dp_script.specs.declared.entry.Acts.TheVariants.{Usual, One}
-use Rattle.dp_script.specs.declared.entry.Entry.{Entry}
+use Rattle.dp_script.specs.declared.instruction.Acts.{Acts}
+use Rattle.dp_script.specs.declared.instruction.Acts.TheVariants.{Usual, One}
+use Rattle.dp_script.specs.declared.instruction.Instruction.{Instruction}
 use Rattle.dp_script.specs.declared.fault.ScriptKind.{ScriptKind}
 use Rattle.dp_script.specs.declared.fault.ScriptKind.TheVariants as kind
 use Rattle.dp_script.specs.Chains.{◌>>=◌, or_fault}
 use Rattle.dp_script.specs.Acts.{AreTwo, IsJunk, IsNear}
 use Rattle.dp_script.specs.Commands.{bytes_of, command_of, exchange_of, hexadecimal_of, message_of, phrase_of, phrase_of_parts, signed_of, verb_of, whole_of}
-use Rattle.dp_script.specs.Entries.{IsGiven, acts_of, below_of, entry_of, near_of, other_of, single_of, told_of}
+use Rattle.dp_script.specs.Instructions.{IsGiven, acts_of, below_of, instruction_of, near_of, other_of, single_of, told_of}
 use Rattle.dp_script.specs.Hexadecimal.{hexadecimal, is_lower_digit, paired}
 use Rattle.dp_script.specs.Written.{Argument, LineIsWritten, Says, WriteAll, WritesOne, arguments_of, word_of}
 use Rattle.dp_script.specs.Written.{whole as whole_one, signed as signed_one, bytes as bytes_one}
@@ -365,12 +365,12 @@ phrased line said e = by_test (nat_le (length line) 192) refl e
     by_test true few e = (grind (arith, nat_tests), e)
     by_test false few e = absurd cc
 
-pub written : (line : List ℕ) (e : Entry) → entry_of line ≡ Ok e → Says line e
-unfolding entry_of
+pub written : (line : List ℕ) (e : Instruction) → instruction_of line ≡ Ok e → Says line e
+unfolding instruction_of
 written line e is =
-    let p = bound {B = Entry} (phrase_of line) (λ said. (acts_of said.command >>= λ acts. (below_of (2 ^ 20) said.cycle >>= λ n. Ok (record { cycle = n; acts = acts })))) e is in
-    let a = bound {B = Entry} (acts_of p.0.command) (λ acts. (below_of (2 ^ 20) p.0.cycle >>= λ n. Ok (record { cycle = n; acts = acts }))) e p.2 in
-    let n = bound {B = Entry} (below_of (2 ^ 20) p.0.cycle) (λ n. Ok (record { cycle = n; acts = a.0 })) e a.2 in
+    let p = bound {B = Instruction} (phrase_of line) (λ said. (acts_of said.command >>= λ acts. (below_of (2 ^ 20) said.cycle >>= λ n. Ok (record { cycle = n; acts = acts })))) e is in
+    let a = bound {B = Instruction} (acts_of p.0.command) (λ acts. (below_of (2 ^ 20) p.0.cycle >>= λ n. Ok (record { cycle = n; acts = acts }))) e p.2 in
+    let n = bound {B = Instruction} (below_of (2 ^ 20) p.0.cycle) (λ n. Ok (record { cycle = n; acts = a.0 })) e a.2 in
     let s = phrased line p.0 p.1 in
     let q = parted (parts_of line) p.0 s.1 in
     let m = said_by q.v q.texts p.0.command a.0 q.meant a.1 in
@@ -675,14 +675,14 @@ line_back line first n texts acts joined short t g w =
     chosen (nat_le (length line) 192) (phrase_of_parts (parts_of line)) (Err kind.Verb) (is_most (length line) 192 short)
     ∙ (ap phrase_of_parts all ∙ parts_back first n texts acts t g w)
 
-read : (line : List ℕ) (e : Entry) → Says line e → entry_of line ≡ Ok e
-unfolding entry_of
+read : (line : List ℕ) (e : Instruction) → Says line e → instruction_of line ≡ Ok e
+unfolding instruction_of
 read line e s =
-    onward {B = Entry} (phrase_of line) (λ said. (acts_of said.command >>= λ acts. (below_of (2 ^ 20) said.cycle >>= λ n. Ok (record { cycle = n; acts = acts })))) (record { cycle = e.cycle; command = command_for e.acts }) (Ok e)
+    onward {B = Instruction} (phrase_of line) (λ said. (acts_of said.command >>= λ acts. (below_of (2 ^ 20) said.cycle >>= λ n. Ok (record { cycle = n; acts = acts })))) (record { cycle = e.cycle; command = command_for e.acts }) (Ok e)
     (line_back line s.cycle e.cycle s.texts e.acts s.joined s.short s.when s.within s.what)
-    (onward {B = Entry} (acts_of (command_for e.acts)) (λ acts. (below_of (2 ^ 20) e.cycle >>= λ n. Ok (record { cycle = n; acts = acts }))) e.acts (Ok e)
+    (onward {B = Instruction} (acts_of (command_for e.acts)) (λ acts. (below_of (2 ^ 20) e.cycle >>= λ n. Ok (record { cycle = n; acts = acts }))) e.acts (Ok e)
     (acts_back e.acts s.within)
-    (onward {B = Entry} (below_of (2 ^ 20) e.cycle) (λ n. Ok (record { cycle = n; acts = e.acts })) e.cycle (Ok e) (below_back (2 ^ 20) e.cycle s.early) refl))
+    (onward {B = Instruction} (below_of (2 ^ 20) e.cycle) (λ n. Ok (record { cycle = n; acts = e.acts })) e.cycle (Ok e) (below_back (2 ^ 20) e.cycle s.early) refl))
 
 pub line_is_written : LineIsWritten
 line_is_written = record { written = written; read = read }

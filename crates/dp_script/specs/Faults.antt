@@ -1,15 +1,15 @@
--- The first faulty line of a script. Lines and entries that come before another stand newest first.
+-- The first faulty line of a script. Lines and instructions that come before another stand newest first.
 use Rattle.std.specs.Prelude.{ℕ, ◌+◌, ◌^◌, Bool, true, false, ◌==◌, nat_lt, nat_le, List, [], ◌∷◌, length, reverse, Option, Some, None, Result, Ok, Err, if◌then◌else◌}
 use Rattle.std.specs.List.{filter_map}
 use Rattle.std.specs.Option.{option_map, option_or}
 use Rattle.std.specs.Result.{result_ok}
 use Rattle.dp_text.specs.Lines.{lines_of}
-use Rattle.dp_script.specs.declared.entry.Entry.{Entry}
+use Rattle.dp_script.specs.declared.instruction.Instruction.{Instruction}
 use Rattle.dp_script.specs.declared.fault.ScriptFault.{ScriptFault}
 use Rattle.dp_script.specs.declared.fault.ScriptFault.TheVariants.{Line}
 use Rattle.dp_script.specs.declared.fault.ScriptKind.{ScriptKind}
 use Rattle.dp_script.specs.declared.fault.ScriptKind.TheVariants.{Range, Order}
-use Rattle.dp_script.specs.Entries.{entry_of}
+use Rattle.dp_script.specs.Instructions.{instruction_of}
 
 -- a line that is empty or begins with `#` is skipped
 abbrev pub is_skipped : List ℕ → Bool
@@ -17,33 +17,33 @@ is_skipped [] = true
 is_skipped (c ∷ cs) = c == 35
 
 -- what a line says, where it isn't skipped and has no fault of its own
-unfoldable pub said_by : List ℕ → Option Entry
-said_by line = if is_skipped line then None else result_ok (entry_of line)
+unfoldable pub said_by : List ℕ → Option Instruction
+said_by line = if is_skipped line then None else result_ok (instruction_of line)
 
 -- what lines say
-abbrev pub entries_of : List (List ℕ) → List Entry
-entries_of lines = filter_map said_by lines
+abbrev pub instructions_of : List (List ℕ) → List Instruction
+instructions_of lines = filter_map said_by lines
 
--- the cycle of the last entry, or 0
-abbrev pub last_cycle : List Entry → ℕ
+-- the cycle of the last instruction, or 0
+abbrev pub last_cycle : List Instruction → ℕ
 last_cycle [] = 0
-last_cycle (entry ∷ before) = entry.cycle
+last_cycle (instruction ∷ before) = instruction.cycle
 
--- the fault of an entry after those before it: one too many, or a cycle that goes back
-abbrev pub fault_after : List Entry → Entry → Option ScriptKind
-fault_after before entry =
+-- the fault of an instruction after those before it: one too many, or a cycle that goes back
+abbrev pub fault_after : List Instruction → Instruction → Option ScriptKind
+fault_after before instruction =
     if nat_le (2 ^ 16) (length before) then Some Range
-    else if nat_lt entry.cycle (last_cycle before) then Some Order
+    else if nat_lt instruction.cycle (last_cycle before) then Some Order
     else None
 
-abbrev pub fault_of_entry : List Entry → Result Entry ScriptKind → Option ScriptKind
-fault_of_entry before (Err kind) = Some kind
-fault_of_entry before (Ok entry) = fault_after before entry
+abbrev pub fault_of_instruction : List Instruction → Result Instruction ScriptKind → Option ScriptKind
+fault_of_instruction before (Err kind) = Some kind
+fault_of_instruction before (Ok instruction) = fault_after before instruction
 
 -- the fault of a line after those before it: its own, or that of what it says
 unfoldable pub fault_of : List (List ℕ) → List ℕ → Option ScriptKind
 fault_of before line =
-    if is_skipped line then None else fault_of_entry (entries_of before) (entry_of line)
+    if is_skipped line then None else fault_of_instruction (instructions_of before) (instruction_of line)
 
 -- the first faulty line, lines counted from 1
 unfoldable pub first_fault : List (List ℕ) → Option ScriptFault

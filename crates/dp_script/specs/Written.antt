@@ -1,12 +1,12 @@
--- The lines that say an entry: a cycle, a word and its arguments, joined by spaces.
+-- The lines that say an instruction: a cycle, a word and its arguments, joined by spaces.
 use Rattle.std.specs.Prelude.{◌≡◌, ℕ, ◌<◌, ◌≤◌, ◌^◌, ℤ, List, [], ◌∷◌, length, Ok, codes, ⊤}
 use Rattle.std.specs.List.{join_with_byte}
 use Rattle.dp_text.specs.Laws.{Writes, WritesSigned}
 use Rattle.dp_script.specs.declared.act.Act.TheVariants.{Run, Order, Orders, Tell, Skew, Say, Lie, Junk, Stop, Restart, Upgrade}
-use Rattle.dp_script.specs.declared.entry.Acts.{Acts}
-use Rattle.dp_script.specs.declared.entry.Acts.TheVariants.{Usual, One}
-use Rattle.dp_script.specs.declared.entry.Entry.{Entry}
-use Rattle.dp_script.specs.Entries.{IsGiven, entry_of}
+use Rattle.dp_script.specs.declared.instruction.Acts.{Acts}
+use Rattle.dp_script.specs.declared.instruction.Acts.TheVariants.{Usual, One}
+use Rattle.dp_script.specs.declared.instruction.Instruction.{Instruction}
+use Rattle.dp_script.specs.Instructions.{IsGiven, instruction_of}
 use Rattle.dp_script.specs.Hexadecimal.{hexadecimal}
 
 -- the word that names what is done
@@ -57,8 +57,8 @@ WriteAll [] [] = ⊤
 WriteAll (text ∷ texts) (argument ∷ arguments) = WritesOne text argument × WriteAll texts arguments
 WriteAll texts arguments = ⊥
 
--- a line says an entry in range: it is written from its cycle, its word and its arguments
-pub record Says (line : List ℕ) (e : Entry) : Type 0 where
+-- a line says an instruction in range: it is written from its cycle, its word and its arguments
+pub record Says (line : List ℕ) (e : Instruction) : Type 0 where
   pub cycle : List ℕ
   pub texts : List (List ℕ)
   pub joined : line ≡ join_with_byte 32 (cycle ∷ word_of e.acts ∷ texts)
@@ -70,5 +70,5 @@ pub record Says (line : List ℕ) (e : Entry) : Type 0 where
 
 -- what is read of a line is what it says, and what a line says is read
 pub record LineIsWritten : Type 0 where
-  pub written : (line : List ℕ) (e : Entry) → entry_of line ≡ Ok e → Says line e
-  pub read : (line : List ℕ) (e : Entry) → Says line e → entry_of line ≡ Ok e
+  pub written : (line : List ℕ) (e : Instruction) → instruction_of line ≡ Ok e → Says line e
+  pub read : (line : List ℕ) (e : Instruction) → Says line e → instruction_of line ≡ Ok e

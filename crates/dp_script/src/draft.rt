@@ -2,12 +2,12 @@ ghost use Rattle.dp_script.specs.declared.fault.ScriptFault.TheVariants.{Memory}
 ghost use Rattle.std.specs.Prelude.{◌≡◌, ◌≢◌, ◌<◌, ◌≤◌, ◌+◌, ◌++◌, ◌^◌, [], ◌∷◌, ℕ, List, IfErr, IfOk, IfSome, OnOk, Some};
 ghost use Rattle.std.specs.Result.{result_err};
 ghost use Rattle.dp_script.specs.Drafts.{IsDraftOf, IsPassed};
-ghost use Rattle.dp_script.specs.Entries.{IsGiven};
+ghost use Rattle.dp_script.specs.Instructions.{IsGiven};
 ghost use Rattle.dp_script.specs.TimedActs.{timed_acts_by, timed_acts_of};
 ghost use Rattle.dp_script.specs.Faults as Faults;
 ghost use Rattle.dp_script.specs.Faults.{fault_of, first_fault, said_by};
 
-use crate::entry::{Entry, entry_read};
+use crate::instruction::{Instruction, instruction_read};
 use crate::script::Script;
 use crate::{ScriptFault, ScriptKind};
 use std::alloc::{AllocError, Global};
@@ -62,8 +62,8 @@ impl Draft {
                 self.number += 1;
                 Ok(())
             }
-            Ok(Some(entry)) => {
-                self.enter(entry)?;
+            Ok(Some(instruction)) => {
+                self.enter(instruction)?;
                 Ok(())
             }
             Err(kind) => Err(ScriptFault::Line {
@@ -75,42 +75,42 @@ impl Draft {
 
     /// What a line says after those before it; nothing where it is skipped.
     #[tactic(auto, unfolding(crate::specs::Faults::said_by, crate::specs::Faults::fault_of))]
-    fn judge(&self, line: &[u8]) -> Result<Option<Entry>, ScriptKind>
+    fn judge(&self, line: &[u8]) -> Result<Option<Instruction>, ScriptKind>
         ensures said { IfOk result (λ said. said_by line.now ≡ said) }
         ensures fault { (before : List (List ℕ)) → IsDraftOf self.now before
             → fault_of before line.now ≡ result_err result }
-        ensures order { IfOk result (λ said. IfSome said (λ entry. self.now.last ≤ entry.cycle)) }
-        ensures few { IfOk result (λ said. IfSome said (λ entry. self.now.count < 2 ^ 16)) }
-        ensures within { IfOk result (λ said. IfSome said (λ entry. IsGiven entry.acts)) }
+        ensures order { IfOk result (λ said. IfSome said (λ instruction. self.now.last ≤ instruction.cycle)) }
+        ensures few { IfOk result (λ said. IfSome said (λ instruction. self.now.count < 2 ^ 16)) }
+        ensures within { IfOk result (λ said. IfSome said (λ instruction. IsGiven instruction.acts)) }
     {
         if is_skipped(line) {
             return Ok(None);
         }
-        let entry = entry_read(line)?;
+        let instruction = instruction_read(line)?;
         if self.count >= MOST {
             return Err(ScriptKind::Range);
         }
-        if entry.cycle < self.last {
+        if instruction.cycle < self.last {
             return Err(ScriptKind::Order);
         }
-        Ok(Some(entry))
+        Ok(Some(instruction))
     }
 
     /// Counts a line, and enters what it says.
-    fn enter(&mut self, entry: Entry) -> Result<(), AllocError>
+    fn enter(&mut self, instruction: Instruction) -> Result<(), AllocError>
         requires passed { IsPassed self.old }
-        requires order { self.old.last ≤ entry.cycle }
+        requires order { self.old.last ≤ instruction.cycle }
         requires few { self.old.count < 2 ^ 16 }
         requires room { self.old.number < 2 ^ 63 }
-        requires within { IsGiven entry.acts }
+        requires within { IsGiven instruction.acts }
         ensures passed { OnOk result (IsPassed self.new) }
-        ensures script { OnOk result (self.new.script ≡ self.old.script ++ timed_acts_of entry) }
+        ensures script { OnOk result (self.new.script ≡ self.old.script ++ timed_acts_of instruction) }
         ensures number { OnOk result (self.new.number ≡ self.old.number + 1) }
         ensures count { OnOk result (self.new.count ≡ self.old.count + 1) }
-        ensures last { OnOk result (self.new.last ≡ entry.cycle) }
+        ensures last { OnOk result (self.new.last ≡ instruction.cycle) }
     {
-        let cycle = entry.cycle;
-        self.script.enter(entry)?;
+        let cycle = instruction.cycle;
+        self.script.enter(instruction)?;
         self.number += 1;
         self.count += 1;
         self.last = cycle;

@@ -36,7 +36,7 @@
 //! 3. `Range`: a number is outside its range, A and B are equal, HEX has a wrong length, or 2^16 lines before it weren't skipped.
 //! 4. `Order`: the cycle is less than that of the last line before it that wasn't skipped.
 //!
-//! `specs/` has this as definitions on the whole text: what a line says (`Commands`, `Entries`), the first faulty line, each judged with
+//! `specs/` has this as definitions on the whole text: what a line says (`Commands`, `Instructions`), the first faulty line, each judged with
 //! the lines before it (`Faults`), and the acts of a cycle (`TimedActs`). [`laws`] says that what is read of a line is what the line was
 //! written from (`Written`). `Script::of` reads the bytes once; `len` and `act` search for the
 //! cycle and take no memory.
@@ -66,10 +66,10 @@
 mod act;
 mod command;
 mod draft;
-mod entry;
 mod fault;
 mod generator;
 mod hexadecimal;
+mod instruction;
 pub mod laws;
 mod made_line;
 mod maker;

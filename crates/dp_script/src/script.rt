@@ -3,7 +3,7 @@ ghost use Rattle.std.specs.List.{AllWithin};
 ghost use Rattle.std.specs.List.Sorted.{IsNonDecreasingBy};
 ghost use Rattle.dp_script.specs.declared.timed_act.TimedAct.{TimedAct};
 ghost use Rattle.dp_script.specs.Acts.{usual_acts, IsWithin};
-ghost use Rattle.dp_script.specs.Entries.{IsGiven};
+ghost use Rattle.dp_script.specs.Instructions.{IsGiven};
 ghost use Rattle.dp_script.specs.Faults.{fault_in};
 ghost use Rattle.dp_script.specs.TimedActs.{acts_at, acts_in, has_usual_acts, timed_acts_by, timed_acts_of, timed_acts_with, IsScript};
 ghost use Rattle.dp_text.specs.{lines_of};
@@ -12,7 +12,7 @@ ghost use Rattle.dp_script.specs.declared.fault.ScriptFault.TheVariants.{Memory}
 use crate::ScriptFault;
 use crate::act::Act;
 use crate::draft::Draft;
-use crate::entry::{Acts, Entry};
+use crate::instruction::{Acts, Instruction};
 use crate::timed_act::TimedAct;
 use crate::usual::{USUAL, usual};
 use dp_text::next_line;
@@ -92,13 +92,13 @@ impl Script {
         }
     }
 
-    /// Adds the acts of an entry whose cycle isn't before those that are there.
-    pub(crate) fn enter(&mut self, entry: Entry) -> Result<(), AllocError>
-        requires order { All (λ earlier. earlier.cycle ≤ entry.cycle) self.old }
-        requires within { IsGiven entry.acts }
-        ensures ok { OnOk result (self.new ≡ self.old ++ timed_acts_of entry) }
+    /// Adds the acts of an instruction whose cycle isn't before those that are there.
+    pub(crate) fn enter(&mut self, instruction: Instruction) -> Result<(), AllocError>
+        requires order { All (λ earlier. earlier.cycle ≤ instruction.cycle) self.old }
+        requires within { IsGiven instruction.acts }
+        ensures ok { OnOk result (self.new ≡ self.old ++ timed_acts_of instruction) }
     {
-        let Entry { cycle, acts } = entry;
+        let Instruction { cycle, acts } = instruction;
         match acts {
             Acts::Usual => self.push_usual(cycle),
             Acts::One(act) => self.push(TimedAct { cycle, act }),

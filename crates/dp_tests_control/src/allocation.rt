@@ -4,7 +4,7 @@ ghost use Rattle.dp_plant.specs.{IsInBox, IsInRange};
 
 use dp_alloc::{Case, CaseFault, CaseRefusal, Cases, first_refused};
 use dp_plant::Box3;
-use dp_plant::samples::S1;
+use dp_test_rows::samples::S1;
 use dp_test_rows::{edited, plant_with};
 use dp_trig::Trig;
 

@@ -4,8 +4,8 @@ ghost use Rattle.dp_cert.specs.{IsShareRow};
 
 use arrayvec::ArrayVec;
 use dp_cert::{Accepted, CertFault, accept};
-use dp_plant::samples::{S1, S2};
 use dp_plant::{Box3, Gains, Plant, RawCase};
+use dp_test_rows::samples::{S1, S2};
 use dp_test_rows::{edited, plant_with};
 use std::alloc::Global;
 use std::process::Abort;

@@ -4,7 +4,7 @@
 //! a list with a comma behind each.
 use crate::words::below;
 use dp_consequence::{check, check_bits};
-use dp_plant::samples::S1;
+use dp_test_rows::samples::S1;
 use dp_test_rows::{cut, number, parts, plant_with};
 use std::process::Abort;
 

@@ -11,8 +11,8 @@ use crate::samples::{accepted, heard};
 use crate::words::{below, is_offer};
 use arrayvec::ArrayVec;
 use dp_exchange::{Computer, Heard, Mode, Offer, Ran};
-use dp_plant::samples::S1;
 use dp_plant::{Frame, Memory, Place};
+use dp_test_rows::samples::S1;
 use dp_test_rows::{cut, natural, number, parts, plant_with};
 use std::process::Abort;
 

@@ -4,9 +4,9 @@ ghost use Rattle.dp_plant.specs.{IsFrameInRange, IsGustWithin, IsVectorWithin};
 
 use crate::samples::{accepted, heard};
 use dp_machine::{Alarms, Cause, Issue, Machine};
-use dp_plant::samples::{S1, S2};
 use dp_plant::{Frame, Gust, Place, PlaneState, Slot};
 use dp_test_rows::plant_with;
+use dp_test_rows::samples::{S1, S2};
 use std::alloc::Global;
 use std::process::Abort;
 

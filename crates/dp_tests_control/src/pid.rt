@@ -5,9 +5,9 @@ ghost use Rattle.dp_pid.specs.{IsWindPush};
 
 use crate::samples::yaw_gains;
 use dp_pid::{Asked, issue, wind_push};
-use dp_plant::samples::S1;
 use dp_plant::{Box3, Gains, Place, PlaneState, Plant, Setpoint, YawState};
 use dp_test_rows::plant_with;
+use dp_test_rows::samples::S1;
 use std::process::Abort;
 
 fn gains() -> Gains

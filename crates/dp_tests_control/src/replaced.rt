@@ -4,9 +4,9 @@ ghost use Rattle.dp_plant.specs.{IsFrameInRange, IsVectorWithin};
 
 use crate::samples::{accepted, heard};
 use dp_machine::{Issue, Machine};
-use dp_plant::samples::S1;
 use dp_plant::{Frame, Place};
 use dp_test_rows::plant_with;
+use dp_test_rows::samples::S1;
 use std::alloc::Global;
 use std::process::Abort;
 

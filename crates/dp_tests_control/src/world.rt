@@ -15,8 +15,8 @@ use crate::samples::{accepted, heard};
 use crate::words::{are_orders, below, is_ballot, is_offer, is_took};
 use arrayvec::ArrayVec;
 use dp_core::{Alarms, Event, Heard, Issue, Machine, Mode, Place, Ran, Seen, World};
-use dp_plant::samples::S1;
 use dp_plant::{Frame, Memory, Slot};
+use dp_test_rows::samples::S1;
 use dp_test_rows::{cut, natural, number, parts, plant_with};
 use std::process::Abort;
 

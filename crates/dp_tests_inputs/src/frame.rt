@@ -1,9 +1,9 @@
 //! Records, with the answers that the format's description gives them; `origin` has the places of fixes.
 use dp_frame::LineFault::{BadTime, LongLine, NoTime, NoWire, TimeBack, UnknownWire};
 use dp_frame::{Feed, Lines, Phase, empty_frame};
-use dp_plant::samples::S1;
 use dp_plant::{Frame, Gust, Place};
 use dp_test_rows::plant_with;
+use dp_test_rows::samples::S1;
 use dp_trig::Trig;
 use std::alloc::{AllocError, Global};
 use std::process::Abort;

@@ -1,8 +1,8 @@
 //! Sample plant files that are hurt in one place, each with its answer.
 
-use dp_plant::samples::{S1, S2};
 use dp_plant::{PlantFault, plant_of};
 use dp_test_rows::cut;
+use dp_test_rows::samples::{S1, S2};
 use std::alloc::{AllocError, Global};
 use std::process::Abort;
 use tables::{EDITS_OF_S1, EDITS_OF_S2, KEYS_OF_S1, KEYS_OF_S2};

@@ -9,9 +9,14 @@ with_first old n small =
     let same : n % 10 ≡ n = omega (arith, small) in
     ap (λ k. old ++ ((48 + k) ∷ [])) same ∙ ap (λ ds. old ++ ds) (sym (decimal_digit n small))
 
-pub with_last : (old : List ℕ) (n : ℕ) → 10 ≤ n → n < 1000000 → (old ++ decimal (n / 10)) ++ ((48 + n % 10) ∷ []) ≡ old ++ decimal n
+with_last : (old : List ℕ) (n : ℕ) → 10 ≤ n → n < 1000000 → (old ++ decimal (n / 10)) ++ ((48 + n % 10) ∷ []) ≡ old ++ decimal n
 with_last old n more fits =
     append_assoc old (decimal (n / 10)) ((48 + n % 10) ∷ []) ∙ ap (λ ds. old ++ ds) (sym (decimal_step n more (omega (arith, fits))))
+
+-- all digits but the last were appended, and then the last
+pub one_more : (old all new : List ℕ) (n : ℕ) → all ≡ old ++ decimal (n / 10) → new ≡ all ++ ((48 + n % 10) ∷ []) → 10 ≤ n → n < 1000000 → new ≡ old ++ decimal n
+one_more old all new n but_one last more fits =
+    last ∙ ap (λ (ds : List ℕ). ds ++ ((48 + n % 10) ∷ [])) but_one ∙ with_last old n more fits
 
 -- the digits of a number below 10, 100, 1000
 pub one_digit : (n : ℕ) → n < 10 → decimal n ≡ (48 + n % 10) ∷ []

@@ -4,7 +4,8 @@ use Rattle.std.proofs.lemmas.Int.{ints, unsigned_abs-mul, quot_fits}
 use Rattle.std.specs.Int.RustNames.{unsigned_abs, int_div}
 use Rattle.std.proofs.lemmas.Nat.{mul-le}
 use mir.Syntax.{w64}
-use Rattle.dp_trig.specs.Rotation.{Pair, scale, IsShort}
+use Rattle.dp_fixed.specs.{full_scale}
+use Rattle.dp_trig.specs.Rotation.{Pair, IsShort}
 use Rattle.dp_trig.proofs.Lengths.{parts_within}
 
 -- the four products, their two sums, and the quotients of these
@@ -19,11 +20,11 @@ pub record TurnFits (p p' : Pair) : Type 0 where
   pub cosine_sine : FitsSigned w64 (p.0 *ℤ p'.1)
   pub difference : FitsSigned w64 (p.0 *ℤ p'.0 -ℤ p.1 *ℤ p'.1)
   pub sum : FitsSigned w64 (p.1 *ℤ p'.0 +ℤ p.0 *ℤ p'.1)
-  pub new_cosine : FitsSigned w64 (int_div (p.0 *ℤ p'.0 -ℤ p.1 *ℤ p'.1) scale)
-  pub new_sine : FitsSigned w64 (int_div (p.1 *ℤ p'.0 +ℤ p.0 *ℤ p'.1) scale)
+  pub new_cosine : FitsSigned w64 (int_div (p.0 *ℤ p'.0 -ℤ p.1 *ℤ p'.1) full_scale)
+  pub new_sine : FitsSigned w64 (int_div (p.1 *ℤ p'.0 +ℤ p.0 *ℤ p'.1) full_scale)
 
 -- a number within the scale, by its size
-size_within : (a : ℤ) → neg_ℤ scale ≤ℤ a → a ≤ℤ scale → unsigned_abs a ≤ 2 ^ 30
+size_within : (a : ℤ) → neg_ℤ full_scale ≤ℤ a → a ≤ℤ full_scale → unsigned_abs a ≤ 2 ^ 30
 size_within a low high = omega (arith, ints)
 
 -- the size of a product of two such numbers
@@ -67,8 +68,8 @@ turn_fits (a, b) (c, d) h k =
       cosine_sine = product_fits (a *ℤ d) ad;
       difference = difference_fits (a *ℤ c) (b *ℤ d) ac bd;
       sum = sum_fits (b *ℤ c) (a *ℤ d) bc ad;
-      new_cosine = quot_fits w64 (a *ℤ c -ℤ b *ℤ d) scale (difference_fits (a *ℤ c) (b *ℤ d) ac bd) (omega (arith, ints));
-      new_sine = quot_fits w64 (b *ℤ c +ℤ a *ℤ d) scale (sum_fits (b *ℤ c) (a *ℤ d) bc ad) (omega (arith, ints));
+      new_cosine = quot_fits w64 (a *ℤ c -ℤ b *ℤ d) full_scale (difference_fits (a *ℤ c) (b *ℤ d) ac bd) (omega (arith, ints));
+      new_sine = quot_fits w64 (b *ℤ c +ℤ a *ℤ d) full_scale (sum_fits (b *ℤ c) (a *ℤ d) bc ad) (omega (arith, ints));
     }
 
 -- a short pair's parts and their negatives

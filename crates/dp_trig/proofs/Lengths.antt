@@ -5,7 +5,8 @@ use Rattle.std.specs.Int.RustNames.{int_div}
 use lib.IntN.{*ℤ_comm}
 use Rattle.dp_form.proofs.Ring.{var, ◌⊕◌, ◌⊗◌, minus, ring}
 use Rattle.dp_form.proofs.Order.{square_nonneg, mul_le, le_cancel, mul_pos, square_le_cancel}
-use Rattle.dp_trig.specs.Rotation.{Pair, scale, turned, repeated, IsShort, PartsWithin}
+use Rattle.dp_fixed.specs.{full_scale}
+use Rattle.dp_trig.specs.Rotation.{Pair, turned, repeated, IsShort, PartsWithin}
 
 -- of two numbers from 0 up, the smaller one's square is the smaller
 ordered_square : (x y : ℤ) → pos 0 ≤ℤ y → y ≤ℤ x → (y *ℤ y) ≤ℤ (x *ℤ x)
@@ -16,10 +17,10 @@ ordered_square x y h k =
     omega (arith, ints)
 
 -- a quotient cut toward zero, times the divisor, is no further from 0 than the dividend
-cut_square : (x : ℤ) → ((int_div x scale *ℤ scale) *ℤ (int_div x scale *ℤ scale)) ≤ℤ (x *ℤ x)
-cut_square (pos n) = ordered_square (pos n) (int_div (pos n) scale *ℤ scale) (omega (arith, ints)) (omega (arith, ints))
+cut_square : (x : ℤ) → ((int_div x full_scale *ℤ full_scale) *ℤ (int_div x full_scale *ℤ full_scale)) ≤ℤ (x *ℤ x)
+cut_square (pos n) = ordered_square (pos n) (int_div (pos n) full_scale *ℤ full_scale) (omega (arith, ints)) (omega (arith, ints))
 cut_square (negsuc n) =
-    let y = int_div (negsuc n) scale *ℤ scale in
+    let y = int_div (negsuc n) full_scale *ℤ full_scale in
     let p : (neg_ℤ y *ℤ neg_ℤ y) ≤ℤ (pos (suc n) *ℤ pos (suc n)) = ordered_square (pos (suc n)) (neg_ℤ y) (omega (arith, ints)) (omega (arith, ints)) in
     let e : neg_ℤ y *ℤ neg_ℤ y ≡ y *ℤ y = ring (y ∷ []) (minus (var 0) ⊗ minus (var 0)) (var 0 ⊗ var 0) tt in
     let f : pos (suc n) *ℤ pos (suc n) ≡ negsuc n *ℤ negsuc n = ring (negsuc n ∷ []) (minus (var 0) ⊗ minus (var 0)) (var 0 ⊗ var 0) tt in
@@ -47,7 +48,7 @@ rotation_short q a b c d t u q0 h k x y =
 -- two short rotations make a short one
 pub turned-short : (p p' : Pair) → IsShort p → IsShort p' → IsShort (turned p p')
 unfolding turned
-turned-short (a, b) (c, d) h k = record { within = rotation_short scale a b c d _ _ (omega (arith, ints)) h.within k.within (cut_square (a *ℤ c -ℤ b *ℤ d)) (cut_square (b *ℤ c +ℤ a *ℤ d)) }
+turned-short (a, b) (c, d) h k = record { within = rotation_short full_scale a b c d _ _ (omega (arith, ints)) h.within k.within (cut_square (a *ℤ c -ℤ b *ℤ d)) (cut_square (b *ℤ c +ℤ a *ℤ d)) }
 
 -- so do n short steps
 pub repeated-short : (step : Pair) (n : ℕ) → IsShort step → IsShort (repeated step n)
@@ -56,18 +57,18 @@ repeated-short step zero h = record { within = omega (arith, ints) }
 repeated-short step (suc n) h = turned-short (repeated step n) step (repeated-short step n h) h
 
 -- one part of a short pair lies within the scale
-part_within : (a b : ℤ) → (a *ℤ a +ℤ b *ℤ b) ≤ℤ (scale *ℤ scale) → (neg_ℤ scale ≤ℤ a) × (a ≤ℤ scale)
+part_within : (a b : ℤ) → (a *ℤ a +ℤ b *ℤ b) ≤ℤ (full_scale *ℤ full_scale) → (neg_ℤ full_scale ≤ℤ a) × (a ≤ℤ full_scale)
 part_within a b h =
     let rest = square_nonneg b in
     let e : neg_ℤ a *ℤ neg_ℤ a ≡ a *ℤ a = ring (a ∷ []) (minus (var 0) ⊗ minus (var 0)) (var 0 ⊗ var 0) tt in
-    let above : a ≤ℤ scale = square_le_cancel a scale (omega (arith, ints)) (omega (arith, ints)) in
-    let below : neg_ℤ a ≤ℤ scale = square_le_cancel (neg_ℤ a) scale (omega (arith, ints)) (omega (arith, ints)) in
+    let above : a ≤ℤ full_scale = square_le_cancel a full_scale (omega (arith, ints)) (omega (arith, ints)) in
+    let below : neg_ℤ a ≤ℤ full_scale = square_le_cancel (neg_ℤ a) full_scale (omega (arith, ints)) (omega (arith, ints)) in
     (omega (arith, ints), above)
 
 -- the parts of a short pair lie within the scale
 pub parts_within : (p : Pair) → IsShort p → PartsWithin p
 parts_within (a, b) h =
     let first = part_within a b h.within in
-    let swapped : (b *ℤ b +ℤ a *ℤ a) ≤ℤ (scale *ℤ scale) = let w = h.within in omega (arith, ints) in
+    let swapped : (b *ℤ b +ℤ a *ℤ a) ≤ℤ (full_scale *ℤ full_scale) = let w = h.within in omega (arith, ints) in
     let second = part_within b a swapped in
     record { cosine_low = first.0; cosine_high = first.1; sine_low = second.0; sine_high = second.1 }

@@ -1,12 +1,11 @@
-// Rotations of the plane, each a cosine and a sine.
+//! Rotations of the plane, each a cosine and a sine, counted in 1 / [`FULL_SCALE`].
 
 ghost use Rattle.std.specs.Prelude.{◌≡◌, ◌<◌, ℕ, Some, slice_get};
 ghost use Rattle.dp_trig.specs.{IsShort, repeated, turned};
 
-// The unit of a cosine and a sine is 1 / SCALE.
-const SCALE: i64 = 1 << 30;
+use dp_fixed::FULL_SCALE;
 
-// One rotation and then another.
+/// One rotation and then another.
 pub fn turn(first: (i64, i64), second: (i64, i64)) -> (i64, i64)
     requires first_short { IsShort first }
     requires second_short { IsShort second }
@@ -16,17 +15,17 @@ pub fn turn(first: (i64, i64), second: (i64, i64)) -> (i64, i64)
     let (cosine, sine) = first;
     let (next_cosine, next_sine) = second;
     (
-        (cosine * next_cosine - sine * next_sine) / SCALE,
-        (sine * next_cosine + cosine * next_sine) / SCALE,
+        (cosine * next_cosine - sine * next_sine) / FULL_SCALE,
+        (sine * next_cosine + cosine * next_sine) / FULL_SCALE,
     )
 }
 
-// No step, one step, two steps and so on.
+/// No step, one step, two steps and so on.
 pub fn table<const N: usize>(step: (i64, i64)) -> [(i64, i64); N]
     requires short { IsShort step }
     ensures { (k : ℕ) → k < N → slice_get result k ≡ Some (repeated step k) }
 {
-    let mut reached = (SCALE, 0);
+    let mut reached = (FULL_SCALE, 0);
     let mut rotations = [reached; N];
     for rotation in rotations.iter_mut() {
         *rotation = reached;

@@ -4,9 +4,10 @@ ghost use Rattle.dp_trig.specs.{IsShort, PartsWithin, octant_pair, pair_of, quad
 use crate::rotation::{table, turn};
 use std::marker::Model;
 
-// The cosine and the sine of one degree and of a hundredth of a degree, in 2^-30 and cut to whole numbers.
+/// The cosine and the sine of one degree, in 2^-30 and cut to whole numbers.
 const DEGREE: (i64, i64) = (1073578287, 18739378);
 
+/// The same of a hundredth of a degree.
 const HUNDREDTH: (i64, i64) = (1073741807, 187403);
 
 /// Answers the sine pair of every heading.
@@ -59,7 +60,7 @@ impl Trig {
         }
     }
 
-    // From 0 up to, but not including, 90 degrees.
+    /// From 0 up to, but not including, 90 degrees.
     fn quadrant(&self, hundredths: u32) -> (i64, i64)
         requires { hundredths < 9000 }
         ensures value { result ≡ quadrant_pair hundredths }
@@ -73,7 +74,7 @@ impl Trig {
         }
     }
 
-    // From 0 to 45 degrees.
+    /// From 0 to 45 degrees.
     fn octant(&self, hundredths: u32) -> (i64, i64)
         requires { hundredths ≤ 4500 }
         ensures value { result ≡ octant_pair hundredths }

@@ -1,9 +1,9 @@
 ghost use Rattle.std.specs.Prelude.{◌≡◌, ◌≢◌, ◌<◌, ◌≤ℤ◌, [], ◌∷◌, Some, IsNone, IsSome, pos};
-ghost use Rattle.dp_fixed.specs.{mid3_of};
 ghost use Rattle.dp_voter.specs.declared.order.Took.{Took};
 ghost use Rattle.dp_voter.specs.{IsDue, IsReasonFor, agreed_of, answer_of, ballot_of, begun, held_forces, new_voter, ordered, voted};
 
 use crate::{Ballot, Took};
+use dp_fixed::middle;
 use std::marker::Model;
 
 /// How many cycles in a row, without a fresh ballot, the last fresh force is held.
@@ -141,20 +141,6 @@ fn agreed(first: Option<i64>, second: Option<i64>, third: Option<i64>) -> Option
         (Some(a), None, Some(b)) => equal(a, b),
         (None, Some(a), Some(b)) => equal(a, b),
         _ => None,
-    }
-}
-
-fn middle(a: i64, b: i64, c: i64) -> i64
-    ensures { result ≡ mid3_of a b c }
-{
-    let low = a.min(b);
-    let high = a.max(b);
-    if c <= low {
-        low
-    } else if high <= c {
-        high
-    } else {
-        c
     }
 }
 

@@ -1,6 +1,6 @@
 //! Plants: the sample plants whole, and files, cases and gains that are refused.
 use super::{REPLAY, named, told, words_in};
-use dp_plant::samples::{S1, S2, text_of};
+use dp_test_rows::samples::{S1, S2, text_of};
 use std::alloc::Global;
 use std::process::Abort;
 use std::test::Fail;

@@ -3,7 +3,7 @@
 //! A row is `LATITUDE,LONGITUDE~LATITUDE,LONGITUDE~NORTH,EAST`, with the origin first; `-` where the fix has no place.
 use dp_frame::Origin;
 use dp_plant::Place;
-use dp_plant::samples::S1;
+use dp_test_rows::samples::S1;
 use dp_test_rows::{cut, edited, number};
 use dp_trig::Trig;
 use std::alloc::Global;

@@ -15,7 +15,7 @@ pub returns-then-cycle-entry-clause-answer : goal.returns-then-cycle-entry-claus
 unfolding frame_of
 returns-then-cycle-entry-clause-answer c = λ es was f.
     let lt : last_cycle es < c.args.entry.now.cycle = rw was at c.if-cycle-entry.true in
-    rw (c.begin.ensures.over, was) (sym (closed-later c.args.entry.now es lt))
+    rw (c.begin.ensures.completed, was) (sym (closed-later c.args.entry.now es lt))
 
 pub returns-then-cycle-entry-clause-bounded : goal.returns-then-cycle-entry-clause-bounded
 returns-then-cycle-entry-clause-bounded c = λ n was.
@@ -23,12 +23,12 @@ returns-then-cycle-entry-clause-bounded c = λ n was.
 
 pub returns-then-cycle-entry-clause-range : goal.returns-then-cycle-entry-clause-range
 returns-then-cycle-entry-clause-range c = λ groups was e.
-    (c.note.ensures.range groups (c.begin.ensures.range e.cycle groups) e, rw c.begin.ensures.over (was, omega (arith, e.cycle, c.if-cycle-entry.true)))
+    (c.note.ensures.range groups (c.begin.ensures.range e.cycle groups) e, rw c.begin.ensures.completed (was, omega (arith, e.cycle, c.if-cycle-entry.true)))
 
 pub returns-then-cycle-entry-clause-next : goal.returns-then-cycle-entry-clause-next
 returns-then-cycle-entry-clause-next c =
     let opened : c.begin.new.kept.cycle ≡ c.args.entry.now.cycle = rw c.begin.ensures.kept in
-    omega (arith, c.note.ensures.cycle, opened, given-closed c.begin.new.over (c.args.entry.now.cycle - c.args.kept.now.cycle - 1), c.if-cycle-entry.true)
+    omega (arith, c.note.ensures.cycle, opened, given-closed c.begin.new.completed (c.args.entry.now.cycle - c.args.kept.now.cycle - 1), c.if-cycle-entry.true)
 
 pub returns-else-cycle-entry-clause-kept : goal.returns-else-cycle-entry-clause-kept
 returns-else-cycle-entry-clause-kept c = λ es was f.

@@ -1,10 +1,6 @@
-use Rattle.std.proofs.Common.{ℕ, List, ◌+◌, ◌%◌, ◌++◌, ◌∷◌, [], ap, ◌∙◌, arith}
-use Rattle.dp_text.proofs.Decimals.{with_last}
+use Rattle.std.proofs.Common.{arith}
+use Rattle.dp_text.proofs.Decimals.{one_more}
 use Rattle.dp_text.proofs.spelling.append_six.Goals as goal
 
 pub returns-clause-text : goal.returns-clause-text
-returns-clause-text g c =
-    let n = c.args.number in
-    c.append_last.ensures.text
-    ∙ ap (λ (k : List ℕ). k ++ ((48 + n % 10) ∷ [])) c.append_five.ensures.text
-    ∙ with_last c.args.into.now.items n (omega (arith, c.requires.above)) (omega (arith, c.requires.small))
+returns-clause-text g c = one_more _ _ _ c.args.number c.append_five.ensures.text c.append_last.ensures.text (omega (arith, c.requires.above)) (omega (arith, c.requires.small))

@@ -1,35 +1,18 @@
-use Rattle.std.proofs.Common.{◌≡◌, ◌∙◌, ap, arith, refl}
-use Rattle.dp_exchange.specs.ComputerState.{ComputerState, after_restart}
+use Rattle.std.proofs.Common.{refl}
+use Rattle.dp_exchange.specs.ComputerState.{after_restart}
 use Rattle.dp_core.specs.WorldState.{after}
-use Rattle.dp_core.specs.WorldView.{IsInStep, world_of}
 use Rattle.dp_core.specs.declared.event.Event.TheVariants.{Restart}
-use Rattle.dp_core.proofs.InStep.{one-keeps, restart-in_step, restart-plant}
-use Rattle.dp_core.proofs.Lists.{changed-read, read-at, set-length}
-use Rattle.dp_core.proofs.Worlds.{went-on}
+use Rattle.dp_core.proofs.InStep.{restart-in_step, restart-plant}
+use Rattle.dp_core.proofs.OneComputer.{one-more, one-world}
 use Rattle.dp_core.proofs.world.World.restart.Goals as goal
 
 pub invariant_of-self : goal.invariant_of-self
 invariant_of-self c =
-    let i = c.self.inside in
-    let was = c.self.invariant in
-    let three = was.three in
-    let asked = c.requires in
-    let x = c.index-self-c.result in
-    let at = read-at i.computers c.args.c x (omega arith) c.index-self-c.is in
-    record {
-      three = set-length i.computers c.args.c c.restart.new.self ∙ was.three;
-      voters = was.voters;
-      in_step = one-keeps (IsInStep i.cycles_begun) i.computers c.args.c x c.restart.new.self was.in_step at (λ s. rw (c.restart.ensures, ← c.index-self-c.is) (restart-in_step i.cycles_begun x));
-      of_plant = one-keeps (λ (z : ComputerState). z.plant ≡ i.plant) i.computers c.args.c x c.restart.new.self was.of_plant at (λ s. rw (c.restart.ensures, ← c.index-self-c.is) (restart-plant x i.cycles_begun ∙ s));
-      bounded = was.bounded;
-    }
+    one-world c.self.inside c.args.c c.index-self-c.result c.restart.new.self (λ x. after_restart x c.self.inside.cycles_begun) c.self.invariant c.requires c.index-self-c.is c.restart.ensures
+    (λ x s. restart-in_step c.self.inside.cycles_begun x) (λ x. restart-plant x c.self.inside.cycles_begun)
 
 pub returns-clause-represents : goal.returns-clause-represents
 unfolding after
 returns-clause-represents c = λ es r.
-    let i = c.self.inside in
-    let three = c.self.invariant.three in
-    let asked = c.requires in
-    went-on es c.args.self.now _ (Restart c.args.c)
-    (ap (λ ws. record (world_of i) { computers = ws }) (changed-read i.computers i.computers _ c.args.c c.index-self-c.result c.restart.new.self (λ x. after_restart x i.cycles_begun) refl (omega arith) c.index-self-c.is c.restart.ensures refl)
-    ∙ ap (λ w. after w (Restart c.args.c)) c.self.view_is) c.requires r
+    one-more c.self.inside c.args.c c.index-self-c.result c.restart.new.self (λ x. after_restart x c.self.inside.cycles_begun) c.self.invariant c.requires c.index-self-c.is c.restart.ensures
+    es c.args.self.now (Restart c.args.c) c.self.view_is refl c.requires r

@@ -1,43 +1,24 @@
-use Rattle.std.proofs.Common.{◌≡◌, ◌∙◌, ap, refl, arith}
-use Rattle.dp_exchange.specs.ComputerState.{ComputerState, after_run, run_answer}
-use Rattle.dp_core.specs.WorldState.{WorldState, after}
-use Rattle.dp_core.specs.WorldView.{IsInStep, world_of}
+use Rattle.std.proofs.Common.{refl}
+use Rattle.dp_exchange.specs.ComputerState.{after_run, run_answer}
+use Rattle.dp_core.specs.WorldState.{after}
 use Rattle.dp_core.specs.declared.event.Event.TheVariants.{Run}
-use Rattle.dp_core.proofs.InStep.{one-keeps, run-in_step, run-plant}
-use Rattle.dp_core.proofs.Lists.{changed-read, read-at, read-is, set-length}
-use Rattle.dp_core.proofs.Worlds.{run-answer, went-on}
+use Rattle.dp_core.proofs.InStep.{run-in_step, run-plant}
+use Rattle.dp_core.proofs.OneComputer.{one-more, one-world, one-answered}
+use Rattle.dp_core.proofs.Worlds.{run-answer}
 use Rattle.dp_core.proofs.world.World.run.Goals as goal
 
 pub invariant_of-self : goal.invariant_of-self
 invariant_of-self c =
-    let i = c.self.inside in
-    let was = c.self.invariant in
-    let three = was.three in
-    let asked = c.requires in
-    let x = c.index-self-c.result in
-    let at = read-at i.computers c.args.c x (omega arith) c.index-self-c.is in
-    record {
-      three = set-length i.computers c.args.c c.run.new.self ∙ was.three;
-      voters = was.voters;
-      in_step = one-keeps (IsInStep i.cycles_begun) i.computers c.args.c x c.run.new.self was.in_step at (λ s. rw (c.run.ensures.new, ← c.index-self-c.is) (run-in_step i.cycles_begun x s));
-      of_plant = one-keeps (λ (z : ComputerState). z.plant ≡ i.plant) i.computers c.args.c x c.run.new.self was.of_plant at (λ s. rw (c.run.ensures.new, ← c.index-self-c.is) (run-plant x ∙ s));
-      bounded = was.bounded;
-    }
+    one-world c.self.inside c.args.c c.index-self-c.result c.run.new.self after_run c.self.invariant c.requires c.index-self-c.is c.run.ensures.new
+    (λ x s. run-in_step c.self.inside.cycles_begun x s) run-plant
 
 pub returns-clause-represents : goal.returns-clause-represents
 unfolding after
 returns-clause-represents c = λ es r.
-    let i = c.self.inside in
-    let three = c.self.invariant.three in
-    let asked = c.requires in
-    went-on es c.args.self.now _ (Run c.args.c)
-    (ap (λ ws. record (world_of i) { computers = ws }) (changed-read i.computers i.computers _ c.args.c c.index-self-c.result c.run.new.self after_run refl (omega arith) c.index-self-c.is c.run.ensures.new refl)
-    ∙ ap (λ w. after w (Run c.args.c)) c.self.view_is) c.requires r
+    one-more c.self.inside c.args.c c.index-self-c.result c.run.new.self after_run c.self.invariant c.requires c.index-self-c.is c.run.ensures.new
+    es c.args.self.now (Run c.args.c) c.self.view_is refl c.requires r
 
 pub returns-clause-answer : goal.returns-clause-answer
 returns-clause-answer c = λ es r.
-    let i = c.self.inside in
-    let three = c.self.invariant.three in
-    let asked = c.requires in
     run-answer es c.args.self.now c.args.c c.run.result c.requires r
-    (λ x s. c.run.ensures.answer ∙ ap run_answer (read-is i.computers c.args.self.now.computers c.args.c c.index-self-c.result x (ap (λ (w : WorldState). w.computers) c.self.view_is) (omega arith) c.index-self-c.is s))
+    (one-answered c.self.inside c.args.self.now c.args.c c.index-self-c.result run_answer c.run.result c.self.invariant c.requires c.self.view_is c.index-self-c.is c.run.ensures.answer)

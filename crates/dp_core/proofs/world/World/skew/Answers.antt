@@ -1,43 +1,24 @@
-use Rattle.std.proofs.Common.{◌≡◌, ◌∙◌, ap, arith, refl}
-use Rattle.dp_exchange.specs.ComputerState.{ComputerState, after_skew, skew_answer}
-use Rattle.dp_core.specs.WorldState.{WorldState, after}
-use Rattle.dp_core.specs.WorldView.{IsInStep, world_of}
+use Rattle.std.proofs.Common.{refl}
+use Rattle.dp_exchange.specs.ComputerState.{after_skew, skew_answer}
+use Rattle.dp_core.specs.WorldState.{after}
 use Rattle.dp_core.specs.declared.event.Event.TheVariants.{Skew}
-use Rattle.dp_core.proofs.InStep.{one-keeps, skew-in_step, skew-plant}
-use Rattle.dp_core.proofs.Lists.{changed-read, read-at, read-is, set-length}
-use Rattle.dp_core.proofs.Worlds.{skew-answer, went-on}
+use Rattle.dp_core.proofs.InStep.{skew-in_step, skew-plant}
+use Rattle.dp_core.proofs.OneComputer.{one-more, one-world, one-answered}
+use Rattle.dp_core.proofs.Worlds.{skew-answer}
 use Rattle.dp_core.proofs.world.World.skew.Goals as goal
 
 pub invariant_of-self : goal.invariant_of-self
 invariant_of-self c =
-    let i = c.self.inside in
-    let was = c.self.invariant in
-    let three = was.three in
-    let asked = c.requires.computer in
-    let x = c.index-self-c.result in
-    let at = read-at i.computers c.args.c x (omega arith) c.index-self-c.is in
-    record {
-      three = set-length i.computers c.args.c c.skew.new.self ∙ was.three;
-      voters = was.voters;
-      in_step = one-keeps (IsInStep i.cycles_begun) i.computers c.args.c x c.skew.new.self was.in_step at (λ s. rw (c.skew.ensures.new, ← c.index-self-c.is) (skew-in_step i.cycles_begun x c.args.at s));
-      of_plant = one-keeps (λ (z : ComputerState). z.plant ≡ i.plant) i.computers c.args.c x c.skew.new.self was.of_plant at (λ s. rw (c.skew.ensures.new, ← c.index-self-c.is) (skew-plant x c.args.at ∙ s));
-      bounded = was.bounded;
-    }
+    one-world c.self.inside c.args.c c.index-self-c.result c.skew.new.self (λ x. after_skew x c.args.at) c.self.invariant c.requires.computer c.index-self-c.is c.skew.ensures.new
+    (λ x s. skew-in_step c.self.inside.cycles_begun x c.args.at s) (λ x. skew-plant x c.args.at)
 
 pub returns-clause-represents : goal.returns-clause-represents
 unfolding after
 returns-clause-represents c = λ es r.
-    let i = c.self.inside in
-    let three = c.self.invariant.three in
-    let asked = c.requires.computer in
-    went-on es c.args.self.now _ (Skew c.args.c c.args.at)
-    (ap (λ ws. record (world_of i) { computers = ws }) (changed-read i.computers i.computers _ c.args.c c.index-self-c.result c.skew.new.self (λ x. after_skew x c.args.at) refl (omega arith) c.index-self-c.is c.skew.ensures.new refl)
-    ∙ ap (λ w. after w (Skew c.args.c c.args.at)) c.self.view_is) (c.requires.computer, c.requires.place) r
+    one-more c.self.inside c.args.c c.index-self-c.result c.skew.new.self (λ x. after_skew x c.args.at) c.self.invariant c.requires.computer c.index-self-c.is c.skew.ensures.new
+    es c.args.self.now (Skew c.args.c c.args.at) c.self.view_is refl (c.requires.computer, c.requires.place) r
 
 pub returns-clause-answer : goal.returns-clause-answer
 returns-clause-answer c = λ es r.
-    let i = c.self.inside in
-    let three = c.self.invariant.three in
-    let asked = c.requires.computer in
     skew-answer es c.args.self.now c.args.c c.skew.result c.requires.computer r
-    (λ x s. c.skew.ensures.answer ∙ ap skew_answer (read-is i.computers c.args.self.now.computers c.args.c c.index-self-c.result x (ap (λ (w : WorldState). w.computers) c.self.view_is) (omega arith) c.index-self-c.is s))
+    (one-answered c.self.inside c.args.self.now c.args.c c.index-self-c.result skew_answer c.skew.result c.self.invariant c.requires.computer c.self.view_is c.index-self-c.is c.skew.ensures.answer)

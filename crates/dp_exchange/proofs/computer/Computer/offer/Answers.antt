@@ -1,9 +1,7 @@
-use Rattle.std.proofs.Common.{◌≡◌, ◌-◌, ◌≤◌, true, false, length, ap, ◌∙◌, arith, rules}
+use Rattle.std.proofs.Common.{◌≡◌, ◌-◌, ◌≤◌, true, false, length, ap, arith, rules}
 use Rattle.circular_buffer.specs.Buffer.{Buffer, buffer, keep_last}
 use Rattle.dp_plant.specs.declared.frames.Frame.{Frame}
-use Rattle.dp_plant.specs.declared.voting.Mode.TheVariants.{Aligning}
-use Rattle.dp_exchange.specs.OfferTexts.{is_repeated}
-use Rattle.dp_exchange.proofs.Offering.{adopted-new, answered, kept-new, offered, plant-same, taken, taken-answer, texts-spell}
+use Rattle.dp_exchange.proofs.Offering.{adopted-both, kept-both, plant-same, taken, texts-spell}
 use Rattle.dp_exchange.proofs.Waits.{IsWaiting-keep, IsWaiting-same, length-keep}
 use Rattle.dp_exchange.proofs.computer.Computer.offer.Goals as goal
 
@@ -11,46 +9,39 @@ pub returns-then-not-is_repeated-clause-new : goal.returns-then-not-is_repeated-
 returns-then-not-is_repeated-clause-new c =
     let i = c.self.inside in
     let m = c.read_state.new.m in
-    let mode : i.mode ≡ Aligning = search rules in
-    let repeated : is_repeated c.keep.new.self c.args.from ≡ false = search rules in
-    let old : m.state.count ≤ i.next = omega (arith, c.count-state_cycle.ensures, c.if-self-state_cycle.false) in
-    let new : i.next - length i.waits.items ≤ m.state.count = omega (arith, c.count-state_cycle.ensures, c.len.ensures.len, c.if-state_cycle-oldest.false) in
-    let t = taken i c.args.from c.args.bytes.now m c.keep.new.self false c.written_is_read.ensures c.spellings_keep_apart.ensures c.self.invariant c.requires mode c.in_default.ensures.found c.in_default.ensures.ok old new c.keep.ensures.state c.keep.ensures.three c.keep.ensures.text repeated in
-    kept-new i c.args.from c.args.bytes.now m c.keep.new.self t ∙ ap (λ x. offered x c.args.from c.args.bytes.now) c.self.view_is
+    let t = taken i c.args.from c.args.bytes.now m c.keep.new.self false c.written_is_read.ensures c.spellings_keep_apart.ensures c.self.invariant c.requires (search rules) c.in_default.ensures.found c.in_default.ensures.ok
+    (omega (arith, c.count-state_cycle.ensures, c.if-self-state_cycle.false)) (omega (arith, c.count-state_cycle.ensures, c.len.ensures.len, c.if-state_cycle-oldest.false))
+    c.keep.ensures.state c.keep.ensures.three c.keep.ensures.text (search rules) in
+    (kept-both i c.args.self.now c.args.from c.args.bytes.now m c.keep.new.self c.self.view_is t).new
 
 pub returns-then-not-is_repeated-clause-answer : goal.returns-then-not-is_repeated-clause-answer
 returns-then-not-is_repeated-clause-answer c =
     let i = c.self.inside in
     let m = c.read_state.new.m in
-    let mode : i.mode ≡ Aligning = search rules in
-    let repeated : is_repeated c.keep.new.self c.args.from ≡ false = search rules in
-    let old : m.state.count ≤ i.next = omega (arith, c.count-state_cycle.ensures, c.if-self-state_cycle.false) in
-    let new : i.next - length i.waits.items ≤ m.state.count = omega (arith, c.count-state_cycle.ensures, c.len.ensures.len, c.if-state_cycle-oldest.false) in
-    let t = taken i c.args.from c.args.bytes.now m c.keep.new.self false c.written_is_read.ensures c.spellings_keep_apart.ensures c.self.invariant c.requires mode c.in_default.ensures.found c.in_default.ensures.ok old new c.keep.ensures.state c.keep.ensures.three c.keep.ensures.text repeated in
-    taken-answer i c.args.from c.args.bytes.now m c.keep.new.self false t ∙ ap (λ x. answered x c.args.from c.args.bytes.now) c.self.view_is
+    let t = taken i c.args.from c.args.bytes.now m c.keep.new.self false c.written_is_read.ensures c.spellings_keep_apart.ensures c.self.invariant c.requires (search rules) c.in_default.ensures.found c.in_default.ensures.ok
+    (omega (arith, c.count-state_cycle.ensures, c.if-self-state_cycle.false)) (omega (arith, c.count-state_cycle.ensures, c.len.ensures.len, c.if-state_cycle-oldest.false))
+    c.keep.ensures.state c.keep.ensures.three c.keep.ensures.text (search rules) in
+    (kept-both i c.args.self.now c.args.from c.args.bytes.now m c.keep.new.self c.self.view_is t).answer
 
 pub returns-clause-new : goal.returns-clause-new
 returns-clause-new c =
     let i = c.self.inside in
     let m = c.read_state.new.m in
-    let mode : i.mode ≡ Aligning = search rules in
-    let repeated : is_repeated c.keep.new.self c.args.from ≡ true = search rules in
-    let old : m.state.count ≤ i.next = omega (arith, c.count-state_cycle.ensures, c.if-self-state_cycle.false) in
-    let new : i.next - length i.waits.items ≤ m.state.count = omega (arith, c.count-state_cycle.ensures, c.len.ensures.len, c.if-state_cycle-oldest.false) in
-    let t = taken i c.args.from c.args.bytes.now m c.keep.new.self true c.written_is_read.ensures c.spellings_keep_apart.ensures c.self.invariant c.requires mode c.in_default.ensures.found c.in_default.ensures.ok old new c.keep.ensures.state c.keep.ensures.three c.keep.ensures.text repeated in
+    let t = taken i c.args.from c.args.bytes.now m c.keep.new.self true c.written_is_read.ensures c.spellings_keep_apart.ensures c.self.invariant c.requires (search rules) c.in_default.ensures.found c.in_default.ensures.ok
+    (omega (arith, c.count-state_cycle.ensures, c.if-self-state_cycle.false)) (omega (arith, c.count-state_cycle.ensures, c.len.ensures.len, c.if-state_cycle-oldest.false))
+    c.keep.ensures.state c.keep.ensures.three c.keep.ensures.text (search rules) in
     let newest : c.truncate_front.new.self ≡ buffer (keep_last (i.next - m.state.count) i.waits.items) i.waits.capacity = rw c.count-state_cycle.ensures at c.truncate_front.ensures in
-    adopted-new i c.args.from c.args.bytes.now m c.keep.new.self c.truncate_front.new.self t (ap (λ (b : Buffer Frame). b.items) newest) ∙ ap (λ x. offered x c.args.from c.args.bytes.now) c.self.view_is
+    (adopted-both i c.args.self.now c.args.from c.args.bytes.now m c.keep.new.self c.truncate_front.new.self c.self.view_is t (ap (λ (b : Buffer Frame). b.items) newest)).new
 
 pub returns-clause-answer : goal.returns-clause-answer
 returns-clause-answer c =
     let i = c.self.inside in
     let m = c.read_state.new.m in
-    let mode : i.mode ≡ Aligning = search rules in
-    let repeated : is_repeated c.keep.new.self c.args.from ≡ true = search rules in
-    let old : m.state.count ≤ i.next = omega (arith, c.count-state_cycle.ensures, c.if-self-state_cycle.false) in
-    let new : i.next - length i.waits.items ≤ m.state.count = omega (arith, c.count-state_cycle.ensures, c.len.ensures.len, c.if-state_cycle-oldest.false) in
-    let t = taken i c.args.from c.args.bytes.now m c.keep.new.self true c.written_is_read.ensures c.spellings_keep_apart.ensures c.self.invariant c.requires mode c.in_default.ensures.found c.in_default.ensures.ok old new c.keep.ensures.state c.keep.ensures.three c.keep.ensures.text repeated in
-    taken-answer i c.args.from c.args.bytes.now m c.keep.new.self true t ∙ ap (λ x. answered x c.args.from c.args.bytes.now) c.self.view_is
+    let t = taken i c.args.from c.args.bytes.now m c.keep.new.self true c.written_is_read.ensures c.spellings_keep_apart.ensures c.self.invariant c.requires (search rules) c.in_default.ensures.found c.in_default.ensures.ok
+    (omega (arith, c.count-state_cycle.ensures, c.if-self-state_cycle.false)) (omega (arith, c.count-state_cycle.ensures, c.len.ensures.len, c.if-state_cycle-oldest.false))
+    c.keep.ensures.state c.keep.ensures.three c.keep.ensures.text (search rules) in
+    let newest : c.truncate_front.new.self ≡ buffer (keep_last (i.next - m.state.count) i.waits.items) i.waits.capacity = rw c.count-state_cycle.ensures at c.truncate_front.ensures in
+    (adopted-both i c.args.self.now c.args.from c.args.bytes.now m c.keep.new.self c.truncate_front.new.self c.self.view_is t (ap (λ (b : Buffer Frame). b.items) newest)).answer
 
 pub invariant_of-self-2 : goal.invariant_of-self-2
 invariant_of-self-2 c =

@@ -14,6 +14,6 @@ pub returns-clause-answer : goal.returns-clause-answer
 returns-clause-answer c = λ t s.
     let line = c.take_line-ended in
     let p = c.args.self.now.progress.settings in
-    let answer = feed_of line.new.self.progress.over line.result.1 in
+    let answer = feed_of line.new.self.progress.completed line.result.1 in
     c.feed_of.ensures ∙ answered-is p t c.args.byte answer
     (subst (λ (l : List ℕ). IsAnswered p t l answer) (taken-one c.args.byte line.result.0 line.ensures.some line.ensures.within) (line.ensures.answers t s))

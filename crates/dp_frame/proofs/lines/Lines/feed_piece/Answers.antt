@@ -33,7 +33,7 @@ returns-in-Cycle-clause-answers c = λ t s.
     let i = c.loop-taken.taken in
     let inv = c.loop-taken.invariant in
     let last = rw (inv.same, take_rest) at (line.ensures.answers (t ++ take i xs) (inv.reads t s)) in
-    rw (c.in-Cycle.is, ← c.self.view_is) at (piece-answered c.args.self.now.progress.settings t xs i line.result.0 (feed_of line.new.self.progress.over line.result.1) line.ensures.some (rw take_rest at line.ensures.within) (inv.quiet t s) last)
+    rw (c.in-Cycle.is, ← c.self.view_is) at (piece-answered c.args.self.now.progress.settings t xs i line.result.0 (feed_of line.new.self.progress.completed line.result.1) line.ensures.some (rw take_rest at line.ensures.within) (inv.quiet t s) last)
 
 pub returns-in-Record-clause-represents : goal.returns-in-Record-clause-represents
 returns-in-Record-clause-represents c = λ t s.
@@ -48,7 +48,7 @@ returns-in-Record-clause-answers c = λ t s.
     let i = c.loop-taken.taken in
     let inv = c.loop-taken.invariant in
     let last = rw (inv.same, take_rest) at (line.ensures.answers (t ++ take i xs) (inv.reads t s)) in
-    rw c.told.ensures.value (rw c.in-Record.is at (piece-answered c.args.self.now.progress.settings t xs i line.result.0 (feed_of line.new.self.progress.over line.result.1) line.ensures.some (rw take_rest at line.ensures.within) (inv.quiet t s) last))
+    rw c.told.ensures.value (rw c.in-Record.is at (piece-answered c.args.self.now.progress.settings t xs i line.result.0 (feed_of line.new.self.progress.completed line.result.1) line.ensures.some (rw take_rest at line.ensures.within) (inv.quiet t s) last))
 
 pub returns-in-Record-clause-whole : goal.returns-in-Record-clause-whole
 returns-in-Record-clause-whole c = λ more. absurd (told-more c.in-Record.refusal (sym c.told.ensures.value ∙ more))
@@ -59,7 +59,7 @@ loop-taken-preserved c =
     let xs = c.args.piece.now in
     let i = c.loop-taken.taken in
     let inv = c.loop-taken.invariant in
-    let feed = feed_of line.new.self.progress.over line.result.1 in
+    let feed = feed_of line.new.self.progress.completed line.result.1 in
     let more : feed ≡ More = rw c.in-Nothing.is refl in
     let none : length (given feed) ≡ 0 = rw more refl in
     record {

@@ -33,44 +33,44 @@ returns-then-self-eq0-clause-phase c = λ t s ok.
 pub returns-then-is_nothing-clause-represents : goal.returns-then-is_nothing-clause-represents
 returns-then-is_nothing-clause-represents c = λ t s.
     let was = rw (← c.self.view_is) at s in
-    let j = judges _ c.line-ended.new.self (feed_of c.line-ended.new.self.over c.line-ended.result) c.as_slice.result.now t was (rw (← c.self.view_is) at c.requires.going) c.if-self-eq0.false c.as_slice.ensures.value c.line-ended.ensures.settings
+    let j = judges _ c.line-ended.new.self (feed_of c.line-ended.new.self.completed c.line-ended.result) c.as_slice.result.now t was (rw (← c.self.view_is) at c.requires.going) c.if-self-eq0.false c.as_slice.ensures.value c.line-ended.ensures.settings
     (c.line-ended.ensures.represents (ended_lines t) was.lines) (c.line-ended.ensures.answer (ended_lines t) was.lines) in
     whole-done _ _ _ _ t j.progress
 
 pub returns-then-is_nothing-clause-answer : goal.returns-then-is_nothing-clause-answer
 returns-then-is_nothing-clause-answer c = λ t s.
     let was = rw (← c.self.view_is) at s in
-    let j = judges _ c.line-ended.new.self (feed_of c.line-ended.new.self.over c.line-ended.result) c.as_slice.result.now t was (rw (← c.self.view_is) at c.requires.going) c.if-self-eq0.false c.as_slice.ensures.value c.line-ended.ensures.settings
+    let j = judges _ c.line-ended.new.self (feed_of c.line-ended.new.self.completed c.line-ended.result) c.as_slice.result.now t was (rw (← c.self.view_is) at c.requires.going) c.if-self-eq0.false c.as_slice.ensures.value c.line-ended.ensures.settings
     (c.line-ended.ensures.represents (ended_lines t) was.lines) (c.line-ended.ensures.answer (ended_lines t) was.lines) in
-    let more = sym j.answer_is ∙ more-is _ (sym (c.if-is_nothing.ensures c.line-ended.new.self.over)) in
+    let more = sym j.answer_is ∙ more-is _ (sym (c.if-is_nothing.ensures c.line-ended.new.self.completed)) in
     let ok = j.progress.refusal ∙ rw c.line-ended.ensures.settings (answer-more c.self.inside.progress.settings (ended_lines t) (all_lines t) more) in
     c.last_frame-then-is_nothing.ensures.answer (all_lines t) j.progress ok ∙ rw (← c.self.view_is, c.line-ended.ensures.settings) (sym (ending-more c.self.inside.progress.settings t more).0)
 
 pub returns-then-is_nothing-clause-phase : goal.returns-then-is_nothing-clause-phase
 returns-then-is_nothing-clause-phase c = λ t s ok.
     let was = rw (← c.self.view_is) at s in
-    let j = judges _ c.line-ended.new.self (feed_of c.line-ended.new.self.over c.line-ended.result) c.as_slice.result.now t was (rw (← c.self.view_is) at c.requires.going) c.if-self-eq0.false c.as_slice.ensures.value c.line-ended.ensures.settings
+    let j = judges _ c.line-ended.new.self (feed_of c.line-ended.new.self.completed c.line-ended.result) c.as_slice.result.now t was (rw (← c.self.view_is) at c.requires.going) c.if-self-eq0.false c.as_slice.ensures.value c.line-ended.ensures.settings
     (c.line-ended.ensures.represents (ended_lines t) was.lines) (c.line-ended.ensures.answer (ended_lines t) was.lines) in
-    let more = sym j.answer_is ∙ more-is _ (sym (c.if-is_nothing.ensures c.line-ended.new.self.over)) in
+    let more = sym j.answer_is ∙ more-is _ (sym (c.if-is_nothing.ensures c.line-ended.new.self.completed)) in
     rw (← c.self.view_is) (sym (ending-more c.self.inside.progress.settings t more).1)
 
 pub returns : goal.returns
 returns c = record {
   represents = λ t s.
       let was = rw (← c.self.view_is) at s in
-      let j = judges _ c.line-ended.new.self (feed_of c.line-ended.new.self.over c.line-ended.result) c.as_slice.result.now t was (rw (← c.self.view_is) at c.requires.going) c.if-self-eq0.false c.as_slice.ensures.value c.line-ended.ensures.settings
+      let j = judges _ c.line-ended.new.self (feed_of c.line-ended.new.self.completed c.line-ended.result) c.as_slice.result.now t was (rw (← c.self.view_is) at c.requires.going) c.if-self-eq0.false c.as_slice.ensures.value c.line-ended.ensures.settings
       (c.line-ended.ensures.represents (ended_lines t) was.lines) (c.line-ended.ensures.answer (ended_lines t) was.lines) in
       whole-last _ _ _ _ t j.progress;
   answer = λ t s.
       let was = rw (← c.self.view_is) at s in
-      let j = judges _ c.line-ended.new.self (feed_of c.line-ended.new.self.over c.line-ended.result) c.as_slice.result.now t was (rw (← c.self.view_is) at c.requires.going) c.if-self-eq0.false c.as_slice.ensures.value c.line-ended.ensures.settings
+      let j = judges _ c.line-ended.new.self (feed_of c.line-ended.new.self.completed c.line-ended.result) c.as_slice.result.now t was (rw (← c.self.view_is) at c.requires.going) c.if-self-eq0.false c.as_slice.ensures.value c.line-ended.ensures.settings
       (c.line-ended.ensures.represents (ended_lines t) was.lines) (c.line-ended.ensures.answer (ended_lines t) was.lines) in
-      rw (c.feed_of.ensures, ← c.self.view_is) (sym (ending-other c.self.inside.progress.settings t _ (sym j.answer_is) (sym (c.if-is_nothing.ensures c.line-ended.new.self.over))).0);
+      rw (c.feed_of.ensures, ← c.self.view_is) (sym (ending-other c.self.inside.progress.settings t _ (sym j.answer_is) (sym (c.if-is_nothing.ensures c.line-ended.new.self.completed))).0);
   phase = λ t s ok.
       let was = rw (← c.self.view_is) at s in
-      let j = judges _ c.line-ended.new.self (feed_of c.line-ended.new.self.over c.line-ended.result) c.as_slice.result.now t was (rw (← c.self.view_is) at c.requires.going) c.if-self-eq0.false c.as_slice.ensures.value c.line-ended.ensures.settings
+      let j = judges _ c.line-ended.new.self (feed_of c.line-ended.new.self.completed c.line-ended.result) c.as_slice.result.now t was (rw (← c.self.view_is) at c.requires.going) c.if-self-eq0.false c.as_slice.ensures.value c.line-ended.ensures.settings
       (c.line-ended.ensures.represents (ended_lines t) was.lines) (c.line-ended.ensures.answer (ended_lines t) was.lines) in
-      rw (← c.self.view_is) (sym (ending-other c.self.inside.progress.settings t _ (sym j.answer_is) (sym (c.if-is_nothing.ensures c.line-ended.new.self.over))).1);
+      rw (← c.self.view_is) (sym (ending-other c.self.inside.progress.settings t _ (sym j.answer_is) (sym (c.if-is_nothing.ensures c.line-ended.new.self.completed))).1);
   fewer = omega arith;
   range = rw (c.feed_of.ensures, ← c.self.view_is) c.line-ended.ensures.range;
   closes = rw (c.feed_of.ensures, ← c.self.view_is) c.line-ended.ensures.closes;

@@ -45,7 +45,7 @@ returns-then-self-eq0-clause-answers c = λ t s.
     let lt = not_whole xs c.line_len-at.result c.line_len-at.ensures c.if-at-piece.false in
     let none : c.args.self.now.progress.refusal ≡ None = rw (← c.self.view_is) c.in_default.is in
     rw c.line_len-at.ensures
-    (answered-line c.args.self.now.progress.settings t xs (feed_of c.take_whole.new.self.progress.over c.take_whole.result) lt (none-ended c.args.self.now t none s)
+    (answered-line c.args.self.now.progress.settings t xs (feed_of c.take_whole.new.self.progress.completed c.take_whole.result) lt (none-ended c.args.self.now t none s)
     (rw c.line_len-at.ensures at (c.take_whole.ensures.answer t s)))
 
 pub keep_part-requires-2-clause-part : goal.keep_part-requires-2-clause-part
@@ -70,5 +70,5 @@ returns-clause-answers c = λ t s.
     let none : c.args.self.now.progress.refusal ≡ None = rw (← c.self.view_is) c.in_default.is in
     let kept = rw c.line_len-at.ensures at (c.keep_part-2.ensures.represents t s) in
     rw c.line_len-at.ensures
-    (answered-line c.args.self.now.progress.settings t xs (feed_of c.end_line.new.self.progress.over c.end_line.result) lt (none-ended c.args.self.now t none s)
+    (answered-line c.args.self.now.progress.settings t xs (feed_of c.end_line.new.self.progress.completed c.end_line.result) lt (none-ended c.args.self.now t none s)
     (rw c.keep_part-2.ensures.progress at (c.end_line.ensures.answer (t ++ take (line_len xs) xs) kept)))

@@ -16,7 +16,7 @@ returns-in-Blank-clause-answer c = λ lines r.
 pub returns-in-Good-clause-represents : goal.returns-in-Good-clause-represents
 returns-in-Good-clause-represents c = λ lines r.
     let y = ready c.args.self.now lines c.args.line.now (Good c.in-Good.entry) c.requires.going c.in-Good.ensures.value r in
-    represents-good c.args.self.now lines c.args.line.now c.in-Good.entry c.enter.new.kept c.enter.new.over c.requires.going y
+    represents-good c.args.self.now lines c.args.line.now c.in-Good.entry c.enter.new.kept c.enter.new.completed c.requires.going y
     (c.enter.ensures.kept (entries c.args.self.now.settings lines) y.keeps.kept (ready-follows c.args.self.now lines c.args.line.now c.in-Good.entry c.requires.sound.readable.step y))
 
 pub returns-in-Good-clause-answer : goal.returns-in-Good-clause-answer

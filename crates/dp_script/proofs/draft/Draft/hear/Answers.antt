@@ -1,5 +1,5 @@
 use Rattle.std.proofs.Common.{refl, ◌∙◌}
-use Rattle.dp_script.proofs.Hearing.{heard_skip, heard_entry, heard_fault}
+use Rattle.dp_script.proofs.Hearing.{heard_skip, heard_instruction, heard_fault}
 use Rattle.dp_script.proofs.draft.Draft.hear.Goals as goal
 
 pub returns-in-Ok-None-clause-heard : goal.returns-in-Ok-None-clause-heard
@@ -8,7 +8,7 @@ returns-in-Ok-None-clause-heard c = λ before heard.
 
 pub returns-in_ok-enter-in-Ok-Some-clause-heard : goal.returns-in_ok-enter-in-Ok-Some-clause-heard
 returns-in_ok-enter-in-Ok-Some-clause-heard c = λ before heard.
-    heard_entry c.args.self.now _ c.args.line.now before c.in-Ok-Some.entry heard (c.in-Ok-Some.ensures.said ∙ c.in-Ok-Some.field-0-is) (c.in-Ok-Some.ensures.fault before heard)
+    heard_instruction c.args.self.now _ c.args.line.now before c.in-Ok-Some.instruction heard (c.in-Ok-Some.ensures.said ∙ c.in-Ok-Some.field-0-is) (c.in-Ok-Some.ensures.fault before heard)
     c.in_ok-enter-in-Ok-Some.ensures.number c.in_ok-enter-in-Ok-Some.ensures.count c.in_ok-enter-in-Ok-Some.ensures.last
 
 pub returns-in-Err-clause-fault : goal.returns-in-Err-clause-fault

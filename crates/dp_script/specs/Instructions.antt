@@ -8,9 +8,9 @@ use Rattle.dp_script.specs.declared.command.Single.{Single as One}
 use Rattle.dp_script.specs.declared.command.Single.TheVariants.{Run, Orders, Stop, Restart, Upgrade}
 use Rattle.dp_script.specs.declared.command.Message.{Message}
 use Rattle.dp_script.specs.declared.command.Message.TheVariants.{Own, AtRest, Bytes}
-use Rattle.dp_script.specs.declared.entry.Acts.{Acts}
-use Rattle.dp_script.specs.declared.entry.Acts.TheVariants as acts
-use Rattle.dp_script.specs.declared.entry.Entry.{Entry}
+use Rattle.dp_script.specs.declared.instruction.Acts.{Acts}
+use Rattle.dp_script.specs.declared.instruction.Acts.TheVariants as acts
+use Rattle.dp_script.specs.declared.instruction.Instruction.{Instruction}
 use Rattle.dp_script.specs.declared.fault.ScriptKind.{ScriptKind}
 use Rattle.dp_script.specs.declared.fault.ScriptKind.TheVariants as kind
 use Rattle.dp_script.specs.Chains.{◌>>=◌, or_fault}
@@ -81,8 +81,8 @@ listed (acts.One act) = act ∷ []
 
 -- what a line that isn't skipped says, with the first of its faults in the order Verb, Number,
 -- Range
-unfoldable pub entry_of : List ℕ → Result Entry ScriptKind
-entry_of line = do
+unfoldable pub instruction_of : List ℕ → Result Instruction ScriptKind
+instruction_of line = do
   said ← phrase_of line
   acts ← acts_of said.command
   cycle ← below_of (2 ^ 20) said.cycle

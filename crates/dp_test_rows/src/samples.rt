@@ -3,7 +3,7 @@ ghost use Rattle.std.specs.Prelude.{IfOk, flat_map, string_bytes, [], ◌++◌, 
 
 use std::alloc::{AllocError, Global};
 
-/// The text of lines, each of which ends with a line feed. [`plant_of`](crate::plant_of) reads that of [`S1`] and of [`S2`].
+/// The text of lines, each of which ends with a line feed. [`plant_of`](dp_plant::plant_of) reads that of [`S1`] and of [`S2`].
 pub fn text_of(alloc: Global, lines: &[&str]) -> Result<String, AllocError>
     ensures { IfOk result (λ text. string_bytes text ≡ flat_map (λ line. line.now ++ 10 ∷ []) lines.now) }
 {

@@ -1,5 +1,5 @@
 ghost use Rattle.std.specs.Prelude.{◌≡◌, ◌<◌, ◌≤◌, ◌^◌, IfOk, unsigned_abs};
-ghost use Rattle.dp_script.specs.{IsGiven, acts_of, below_of, entry_of, near_of, other_of, single_of, told_of};
+ghost use Rattle.dp_script.specs.{IsGiven, acts_of, below_of, instruction_of, near_of, other_of, single_of, told_of};
 
 use crate::ScriptKind;
 use crate::act::Act;
@@ -25,26 +25,26 @@ pub enum Acts {
 
 /// What a line without a fault of its own says.
 #[derive(Drop)]
-pub struct Entry {
+pub struct Instruction {
     pub cycle: u64,
     pub acts: Acts,
 }
 
 /// What a line says that isn't skipped, judged alone.
-#[tactic(auto, unfolding(crate::specs::Entries::entry_of))]
-pub fn entry_read(line: &[u8]) -> Result<Entry, ScriptKind>
-    ensures value { result ≡ entry_of line.now }
-    ensures within { IfOk result (λ entry. IsGiven entry.acts) }
-    ensures bound { IfOk result (λ entry. entry.cycle < 2 ^ 20) }
+#[tactic(auto, unfolding(crate::specs::Instructions::instruction_of))]
+pub fn instruction_read(line: &[u8]) -> Result<Instruction, ScriptKind>
+    ensures value { result ≡ instruction_of line.now }
+    ensures within { IfOk result (λ instruction. IsGiven instruction.acts) }
+    ensures bound { IfOk result (λ instruction. instruction.cycle < 2 ^ 20) }
 {
     let said = phrase_read(line)?;
     let acts = acts_read(said.command)?;
     let cycle = cycle(said.cycle)?;
-    Ok(Entry { cycle, acts })
+    Ok(Instruction { cycle, acts })
 }
 
 /// The acts of a command whose numbers are within their ranges.
-#[tactic(auto, unfolding(crate::specs::Entries::acts_of))]
+#[tactic(auto, unfolding(crate::specs::Instructions::acts_of))]
 fn acts_read(command: Command) -> Result<Acts, ScriptKind>
     ensures { result ≡ acts_of command }
 {
@@ -85,7 +85,7 @@ fn single(verb: Single, c: u8) -> Act
 }
 
 /// The act in which computer `a` tells computer `b`.
-#[tactic(auto, unfolding(crate::specs::Entries::told_of))]
+#[tactic(auto, unfolding(crate::specs::Instructions::told_of))]
 fn told(a: u8, b: u8, message: Message) -> Result<Act, ScriptKind>
     ensures { result ≡ told_of a b message }
 {
