@@ -105,19 +105,19 @@ force_sum q d n b0 b1 g0 g1 x0 x1 force q0 h0 h1 hf =
     let e4 = (ring (n ∷ (b0 ∷ (b1 ∷ (g0 ∷ (g1 ∷ []))))) ((var 1 ⊗ var 3 ⊕ var 2 ⊗ var 4) ⊗ var 0) (var 1 ⊗ var 3 ⊗ var 0 ⊕ var 2 ⊗ var 4 ⊗ var 0) tt) in
     omega (arith, ints)
 
--- slope and offset are large enough, for n up to (m + q - rate) / (q - rate) with m = input s + q rounding
-bound_reached : (q e sg input s r n move slope offset : ℤ) → pos 0 <ℤ q → pos 0 <ℤ e → pos 0 ≤ℤ sg → pos 0 ≤ℤ s →
-    (q *ℤ move) ≤ℤ (sg *ℤ n) → (e *ℤ n) ≤ℤ (input *ℤ s +ℤ q *ℤ r +ℤ e) → (sg *ℤ input) ≤ℤ (slope *ℤ (q *ℤ e)) → (sg *ℤ (q *ℤ r +ℤ e)) ≤ℤ (offset *ℤ (q *ℤ e)) →
-    move ≤ℤ (slope *ℤ s +ℤ offset)
-bound_reached q e sg input s r n move slope offset q0 e0 sg0 s0 hm hn hs ho =
+-- gain and offset are large enough, for n up to (m + q - rate) / (q - rate) with m = input s + q rounding
+bound_reached : (q e sg input s r n move gain offset : ℤ) → pos 0 <ℤ q → pos 0 <ℤ e → pos 0 ≤ℤ sg → pos 0 ≤ℤ s →
+    (q *ℤ move) ≤ℤ (sg *ℤ n) → (e *ℤ n) ≤ℤ (input *ℤ s +ℤ q *ℤ r +ℤ e) → (sg *ℤ input) ≤ℤ (gain *ℤ (q *ℤ e)) → (sg *ℤ (q *ℤ r +ℤ e)) ≤ℤ (offset *ℤ (q *ℤ e)) →
+    move ≤ℤ (gain *ℤ s +ℤ offset)
+bound_reached q e sg input s r n move gain offset q0 e0 sg0 s0 hm hn hs ho =
     let a = mul_le e (q *ℤ move) (sg *ℤ n) (omega (arith, ints)) hm in
     let b = mul_le sg (e *ℤ n) (input *ℤ s +ℤ q *ℤ r +ℤ e) sg0 hn in
-    let c = mul_le s (sg *ℤ input) (slope *ℤ (q *ℤ e)) s0 hs in
+    let c = mul_le s (sg *ℤ input) (gain *ℤ (q *ℤ e)) s0 hs in
     let e1 = (ring (q ∷ (e ∷ (move ∷ []))) (var 1 ⊗ (var 0 ⊗ var 2)) (var 0 ⊗ var 1 ⊗ var 2) tt) in
     let e2 = (ring (e ∷ (sg ∷ (n ∷ []))) (var 0 ⊗ (var 1 ⊗ var 2)) (var 1 ⊗ (var 0 ⊗ var 2)) tt) in
     let e3 = (ring (sg ∷ (input ∷ (s ∷ (q ∷ (r ∷ (e ∷ [])))))) (var 0 ⊗ (var 1 ⊗ var 2 ⊕ var 3 ⊗ var 4 ⊕ var 5)) (var 2 ⊗ (var 0 ⊗ var 1) ⊕ var 0 ⊗ (var 3 ⊗ var 4 ⊕ var 5)) tt) in
-    let e4 = (ring (s ∷ (slope ∷ (offset ∷ (q ∷ (e ∷ []))))) (var 0 ⊗ (var 1 ⊗ (var 3 ⊗ var 4)) ⊕ var 2 ⊗ (var 3 ⊗ var 4)) (var 3 ⊗ var 4 ⊗ (var 1 ⊗ var 0 ⊕ var 2)) tt) in
-    le_cancel (q *ℤ e) move (slope *ℤ s +ℤ offset) (mul_pos q e q0 e0) (omega (arith, ints))
+    let e4 = (ring (s ∷ (gain ∷ (offset ∷ (q ∷ (e ∷ []))))) (var 0 ⊗ (var 1 ⊗ (var 3 ⊗ var 4)) ⊕ var 2 ⊗ (var 3 ⊗ var 4)) (var 3 ⊗ var 4 ⊗ (var 1 ⊗ var 0 ⊕ var 2)) tt) in
+    le_cancel (q *ℤ e) move (gain *ℤ s +ℤ offset) (mul_pos q e q0 e0) (omega (arith, ints))
 
 -- the force of a thruster with shares r0, r1, r2 of the demands
 pub force_below : (q rate d n s input rounding r0 r1 r2 g0 g1 a a' b b' w : ℤ) → pos 0 <ℤ q → rate <ℤ q → pos 0 <ℤ d → pos 0 ≤ℤ s → pos 0 ≤ℤ g0 → pos 0 ≤ℤ g1 →

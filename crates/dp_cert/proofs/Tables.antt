@@ -32,3 +32,11 @@ mapped f dx dy (x ∷ xs) (y ∷ ys) w h =
     let here : y ≡ f x = h 0 (omega arith) in
     let rest = mapped f dx dy xs ys (omega arith) (λ k l. h (suc k) (omega arith)) in
     cc
+
+-- a list of three, item by item
+pub listed_three : {X : Type 0} (d : X) (xs : List X) → length xs ≡ 3 → xs ≡ get_or xs 0 d ∷ get_or xs 1 d ∷ get_or xs 2 d ∷ []
+listed_three d [] h = absurd (omega arith)
+listed_three d (a ∷ []) h = absurd (omega arith)
+listed_three d (a ∷ b ∷ []) h = absurd (omega arith)
+listed_three d (a ∷ b ∷ c ∷ []) h = refl
+listed_three d (a ∷ b ∷ c ∷ e ∷ xs) h = absurd (omega arith)

@@ -1,6 +1,5 @@
--- How far a thruster's force can move, times 2^20: by the first number for each nanometre between
--- the two other references, and by the
--- second besides.
+-- How far a thruster's force can move, times 2^20: by the gain for each nanometre between the two
+-- other references, and by the offset besides.
 use Rattle.std.specs.Prelude.{◌≡◌, ◌≤◌, ℕ, ◌^◌, ℤ, pos, ◌+ℤ◌, ◌-ℤ◌, ◌*ℤ◌, ◌≤ℤ◌, ◌<ℤ◌, List, unsigned_abs}
 use Rattle.dp_fixed.specs.Scale.{full_scale}
 use Rattle.dp_fixed.specs.Division.{ceil_of}
@@ -19,16 +18,18 @@ weight g row = share_size row 0 *ℤ entry g 0 +ℤ share_size row 1 *ℤ entry 
 abbrev pub margin : Cert → ℤ
 margin c = full_scale -ℤ c.rho
 
-abbrev pub slope : Cert → List ℤ → ℤ
-slope c row = ceil_of (weight c.g row *ℤ c.b) (full_scale *ℤ margin c)
+-- what the force moves with each nanometre
+abbrev pub gain : Cert → List ℤ → ℤ
+gain c row = ceil_of (weight c.g row *ℤ c.b) (full_scale *ℤ margin c)
 
-abbrev pub offset_bound : Cert → List ℤ → ℤ
-offset_bound c row =
+-- what it moves besides
+abbrev pub offset : Cert → List ℤ → ℤ
+offset c row =
     ((share_size row 0 +ℤ share_size row 1) +ℤ pos (2 ^ 20))
     +ℤ ceil_of (weight c.g row *ℤ (full_scale *ℤ c.r +ℤ margin c)) (full_scale *ℤ margin c)
 
 unfoldable pub bound : Cert → List ℤ → ℤ × ℤ
-bound c row = (slope c row, offset_bound c row)
+bound c row = (gain c row, offset c row)
 
 -- ---- for the sums in parts
 -- q is the whole part of n / d, and r the remainder

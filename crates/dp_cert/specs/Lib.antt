@@ -8,6 +8,7 @@ pub mod InRange
 pub mod Width
 pub mod Valid
 pub mod Sound
+pub mod Judged
 pub mod Bound
 pub mod States
 pub mod CertifiedSet

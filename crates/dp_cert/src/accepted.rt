@@ -71,7 +71,7 @@ impl Accepted {
         }
     }
 
-    /// The two numbers of each thruster of a case: how far its force can move, times 2^20, for each nanometre between the two other
+    /// Gain and offset of each thruster of a case: how far its force can move, times 2^20, for each nanometre between the two other
     /// references, and besides.
     ///
     /// The force is in newtons. Replacing one position reference for any number of cycles, in which the other two stay within s of

@@ -21,9 +21,9 @@ pub(crate) fn bound_of(c: &Cert, row: &[i64; 3]) -> (i128, i128)
     let (surge, sway) = sizes(row);
     let weight = weight(&c.g, surge, sway);
     let gap = margin(c.rho);
-    let moved = moved(weight, wide(c.b), gap);
+    let gain = gain(weight, wide(c.b), gap);
     let rounded = rounded(weight, wide(c.r), gap);
-    (moved, besides(surge, sway, rounded))
+    (gain, offset(surge, sway, rounded))
 }
 
 /// The absolute values of a row's shares of surge and sway.
@@ -88,8 +88,8 @@ fn margin(rho: i64) -> i128
     difference(Q, wide(rho))
 }
 
-/// What each nanometre between the two other references moves.
-fn moved(weight: i128, b: i128, gap: i128) -> i128
+/// The gain: what each nanometre between the two other references moves.
+fn gain(weight: i128, b: i128, gap: i128) -> i128
     requires weight { IsUpTo (pos (2 ^ 72)) weight }
     requires b { IsUpTo (pos (2 ^ 50)) b }
     requires least { pos 0 <ℤ gap }
@@ -99,7 +99,7 @@ fn moved(weight: i128, b: i128, gap: i128) -> i128
     ceil_div(product(weight, b), Q * gap)
 }
 
-/// What moves besides, by the rounding: whole parts and remainders apart, since the numerator can pass 128 bits.
+/// What the rounding moves: whole parts and remainders apart, since the numerator can pass 128 bits.
 fn rounded(weight: i128, r: i128, gap: i128) -> i128
     requires weight { IsUpTo (pos (2 ^ 72)) weight }
     requires r { IsUpTo (pos (2 ^ 40)) r }
@@ -137,8 +137,8 @@ fn rest(kept: i128, demand: i128, gap: i128) -> i128
     ceil_div(Q * kept + product(demand, gap), Q * gap)
 }
 
-/// The shares and the rounding together.
-fn besides(surge: i128, sway: i128, rounded: i128) -> i128
+/// The offset: what the shares and the rounding move together.
+fn offset(surge: i128, sway: i128, rounded: i128) -> i128
     requires surge { IsUpTo (pos (2 ^ 31)) surge }
     requires sway { IsUpTo (pos (2 ^ 31)) sway }
     requires rounded { unsigned_abs rounded ≤ 2 ^ 123 }

@@ -12,12 +12,13 @@ ghost use Rattle.dp_cert.specs.WaveLoop.{
   wave_place_row,
   wave_q_row,
   wave_rounding,
-  wave_velocity_row,
+  with_waves,
 };
 ghost use Rattle.dp_cert.specs.{IsSmallAxis, IsSmallLoop};
 
-use crate::loops::{AxisLoop, Loop, gain_of, less, less_both, minus, minus_both, wide};
-use dp_fixed::{FULL_SCALE, Q};
+use crate::loops::{AxisLoop, Loop, less, minus, wide};
+use crate::three_states::{self, clamped_row, free_row, saturated_row};
+use dp_fixed::Q;
 use dp_plant::Gains;
 
 /// The loop of gains with a wave filter.
@@ -44,9 +45,9 @@ fn axis_loop(g: &Gains, axis: usize) -> AxisLoop<5>
     ensures small { IsSmallAxis result }
 {
     AxisLoop {
-        saturated: rows(g, saturated_row(g, axis)),
-        clamped: rows(g, clamped_row(g, axis)),
-        free: rows(g, free_row(g, axis)),
+        saturated: rows(g, velocity_row(g, saturated_row(g, axis))),
+        clamped: rows(g, velocity_row(g, clamped_row(g, axis))),
+        free: rows(g, velocity_row(g, free_row(g, axis))),
         output: output_row(g, axis, Q),
         clamped_output: output_row(g, axis, 0),
     }
@@ -69,7 +70,7 @@ fn place_row(g: &Gains) -> [i128; 5]
     ensures value { result ≡ wave_place_row g.now }
     ensures small { All (IsWithin (2 ^ 35)) result }
 {
-    five(less(FULL_SCALE, g.k2), 0, Q, 0, minus(g.k2))
+    with_waves(&three_states::place_row(g), 0, minus(g.k2))
 }
 
 fn bias_row(g: &Gains) -> [i128; 5]
@@ -77,54 +78,17 @@ fn bias_row(g: &Gains) -> [i128; 5]
     ensures value { result ≡ wave_bias_row g.now }
     ensures small { All (IsWithin (2 ^ 35)) result }
 {
-    five(minus(g.k3), less(FULL_SCALE, g.leak), 0, 0, minus(g.k3))
+    with_waves(&three_states::bias_row(g), 0, minus(g.k3))
 }
 
-// With the thrust at a limit.
-fn saturated_row(g: &Gains, axis: usize) -> [i128; 5]
+// The velocity's row of a vertex, from that without waves.
+fn velocity_row(g: &Gains, row: [i128; 3]) -> [i128; 5]
     requires observer { IsObserverGains g.now }
-    ensures value { result ≡ wave_velocity_row g.now axis 0 }
+    requires row { All (IsWithin (2 ^ 35)) row }
+    ensures value { result ≡ with_waves row (pos 0) (neg_ℤ g.now.k4) }
     ensures small { All (IsWithin (2 ^ 35)) result }
 {
-    five(minus(g.k4), Q, less(FULL_SCALE, g.damp), 0, minus(g.k4))
-}
-
-// With the bias at its limit.
-fn clamped_row(g: &Gains, axis: usize) -> [i128; 5]
-    requires axis { axis < 2 }
-    requires observer { IsObserverGains g.now }
-    requires law { IsLawGains g.now }
-    ensures value { result ≡ wave_velocity_row g.now axis 1 }
-    ensures small { All (IsWithin (2 ^ 35)) result }
-{
-    let kp = gain_of(&g.kp, axis);
-    let kd = gain_of(&g.kd, axis);
-    five(
-        minus_both(g.k4, kp),
-        Q,
-        less_both(FULL_SCALE, g.damp, kd),
-        0,
-        minus(g.k4),
-    )
-}
-
-// With neither at a limit.
-fn free_row(g: &Gains, axis: usize) -> [i128; 5]
-    requires axis { axis < 2 }
-    requires observer { IsObserverGains g.now }
-    requires law { IsLawGains g.now }
-    ensures value { result ≡ wave_velocity_row g.now axis 2 }
-    ensures small { All (IsWithin (2 ^ 35)) result }
-{
-    let kp = gain_of(&g.kp, axis);
-    let kd = gain_of(&g.kd, axis);
-    five(
-        minus_both(g.k4, kp),
-        0,
-        less_both(FULL_SCALE, g.damp, kd),
-        0,
-        minus(g.k4),
-    )
+    with_waves(&row, 0, minus(g.k4))
 }
 
 fn p_row(g: &Gains) -> [i128; 5]
@@ -162,13 +126,7 @@ fn output_row(g: &Gains, axis: usize, bias: i128) -> [i128; 5]
     ensures value { result ≡ entry g.now.kp axis ∷ bias ∷ entry g.now.kd axis ∷ pos 0 ∷ pos 0 ∷ [] }
     ensures small { All (IsWithin (2 ^ 35)) result }
 {
-    five(
-        wide(gain_of(&g.kp, axis)),
-        bias,
-        wide(gain_of(&g.kd, axis)),
-        0,
-        0,
-    )
+    with_waves(&three_states::output_row(g, axis, bias), 0, 0)
 }
 
 fn correction(g: &Gains) -> [i128; 5]
@@ -176,10 +134,8 @@ fn correction(g: &Gains) -> [i128; 5]
     ensures value { result ≡ wave_correction g.now }
     ensures small { All (IsWithin (2 ^ 35)) result }
 {
-    five(
-        wide(g.k2),
-        wide(g.k3),
-        wide(g.k4),
+    with_waves(
+        &three_states::correction(g),
         wide(g.k1[0]),
         wide(g.k1[1]),
     )
@@ -189,7 +145,18 @@ fn rounding() -> [i128; 5]
     ensures value { result ≡ wave_rounding }
     ensures small { All (IsWithin (2 ^ 35)) result }
 {
-    five(1, 1, 3, 1, 1)
+    with_waves(&three_states::rounding(), 1, 1)
+}
+
+// A row of three states with what the wave states add.
+fn with_waves(row: &[i128; 3], p: i128, q: i128) -> [i128; 5]
+    requires row { All (IsWithin (2 ^ 35)) row.now }
+    requires p { IsWithin (2 ^ 35) p }
+    requires q { IsWithin (2 ^ 35) q }
+    ensures value { result ≡ with_waves row.now p q }
+    ensures small { All (IsWithin (2 ^ 35)) result }
+{
+    [row[0], row[1], row[2], p, q]
 }
 
 fn five(a: i128, b: i128, c: i128, d: i128, e: i128) -> [i128; 5]

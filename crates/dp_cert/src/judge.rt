@@ -1,9 +1,9 @@
 //! The conditions of a valid certificate but for the ranges, in their order.
-ghost use Rattle.std.specs.Prelude.{◌≡◌, ◌<◌, ◌≤◌, ◌^◌, ◌⊎◌, ℕ, pos, ◌*ℤ◌, ◌<ℤ◌, ◌≤ℤ◌, int_le, unsigned_abs, All, None};
+ghost use Rattle.std.specs.Prelude.{◌≡◌, ◌<◌, ◌≤◌, ◌^◌, ◌⊎◌, pos, ◌*ℤ◌, ◌<ℤ◌, ◌≤ℤ◌, int_le, None};
 ghost use Rattle.dp_fixed.specs.{full_scale};
-ghost use Rattle.dp_form.specs.{IsNonNegative, IsSmallSquare, IsWithin, form};
+ghost use Rattle.dp_form.specs.{IsNonNegative, form};
 ghost use Rattle.dp_plant.specs.{IsLawGains, IsObserverGains};
-ghost use Rattle.dp_cert.specs.{AreLists, AreNumbers, AreParts, AreWaveSpans, IsSmallLoop, IsUpTo, absolute_rows, loop_five, loop_three, squares_at, squares_of};
+ghost use Rattle.dp_cert.specs.{AreLists, AreNumbers, AreParts, AreWaveSpans, IsSmallLoop, IsUpTo, absolute_rows, loop_five, loop_three};
 ghost use Rattle.dp_cert.specs.Sound.{
   AreBounded,
   BoundsCoordinate,
@@ -22,22 +22,19 @@ ghost use Rattle.dp_cert.specs.Valid.{
   form_condition,
   input_condition,
   list_fault,
-  output_condition,
   rate_condition,
   round_condition,
-  span_condition,
-  vertex_condition,
 };
 
 use crate::CertFault;
 use crate::five_states::loop_five;
-use crate::forms::{absolute_rows, form_of, number_of, unit};
+use crate::judged::Which;
 use crate::loops::Loop;
-use crate::shown::{contraction_short, first_short, output_short};
+use crate::shown::{first_short, list_condition};
 use crate::three_states::loop_three;
+use crate::root_numbers::{input_square, round_square};
 use crate::width::first_too_wide;
 use dp_fixed::Q;
-use dp_form::Squares;
 use dp_plant::{Cert, Gains, Lists, Parts};
 
 /// The first condition that fails, of gains and a certificate whose numbers are in range.
@@ -65,8 +62,9 @@ fn fault_of_three(g: &Gains, c: &Cert, l: &Lists<3>) -> Option<CertFault>
     ensures sound { result ≡ None → IsSoundLoop c.now l.now (loop_three g.now) }
     ensures bounded { result ≡ None → AreBounded l.now }
 {
-    let spans = first_span(l);
-    list_fault(c, l, &loop_three(g), spans)
+    let m = loop_three(g);
+    let spans = first_span(c, l, &m);
+    list_fault(c, l, &m, spans)
 }
 
 fn fault_of_five(g: &Gains, c: &Cert, l: &Lists<5>) -> Option<CertFault>
@@ -79,8 +77,9 @@ fn fault_of_five(g: &Gains, c: &Cert, l: &Lists<5>) -> Option<CertFault>
     ensures sound { result ≡ None → IsSoundLoop c.now l.now (loop_five g.now) }
     ensures bounded { result ≡ None → AreBounded l.now }
 {
-    let spans = first_wave_span(l);
-    list_fault(c, l, &loop_five(g), spans)
+    let m = loop_five(g);
+    let spans = first_wave_span(c, l, &m);
+    list_fault(c, l, &m, spans)
 }
 
 /// The first condition that fails, of a certificate whose numbers are in range.
@@ -160,7 +159,7 @@ fn form_condition<const N: usize>(l: &Lists<N>) -> Option<CertFault>
     })
 }
 
-#[tactic(auto, unfolding(crate::specs::Valid::first_vertex))]
+#[tactic(auto, unfolding(crate::specs::Valid::first_vertex, crate::specs::Valid::vertex_condition))]
 fn first_vertex<const N: usize>(c: &Cert, l: &Lists<N>, m: &Loop<N>) -> Option<CertFault>
     requires size { (N ≡ 3) ⊎ (N ≡ 5) }
     requires numbers { AreNumbers c.now }
@@ -174,49 +173,12 @@ fn first_vertex<const N: usize>(c: &Cert, l: &Lists<N>, m: &Loop<N>) -> Option<C
     ensures sway_clamped { result ≡ None → Shrinks c.now l.now m.now.sway.clamped }
     ensures sway_free { result ≡ None → Shrinks c.now l.now m.now.sway.free }
 {
-    let surge = &l.vertex[0];
-    let sway = &l.vertex[1];
-    vertex_condition(c, l, &m.surge.saturated, 0, 0, &surge[0])
-        .or(vertex_condition(c, l, &m.surge.clamped, 0, 1, &surge[1]))
-        .or(vertex_condition(c, l, &m.surge.free, 0, 2, third(surge)))
-        .or(vertex_condition(c, l, &m.sway.saturated, 1, 0, &sway[0]))
-        .or(vertex_condition(c, l, &m.sway.clamped, 1, 1, &sway[1]))
-        .or(vertex_condition(c, l, &m.sway.free, 1, 2, third(sway)))
-}
-
-// That the loop's matrix a shrinks the form.
-#[tactic(auto, unfolding(crate::specs::Valid::vertex_condition))]
-fn vertex_condition<const N: usize>(
-    c: &Cert,
-    l: &Lists<N>,
-    a: &[[i128; N]; N],
-    axis: usize,
-    vertex: usize,
-    squares: &Squares<N>,
-) -> Option<CertFault>
-    requires size { (N ≡ 3) ⊎ (N ≡ 5) }
-    requires numbers { AreNumbers c.now }
-    requires lists { AreLists l.now }
-    requires matrix { All (All (IsWithin (2 ^ 35))) a.now }
-    requires place { squares.now.list.items ≡ squares_at l.now.vertex axis vertex }
-    requires squares { All IsSmallSquare (squares_at l.now.vertex axis vertex) }
-    ensures value { result ≡ vertex_condition c.now l.now a.now axis vertex }
-    ensures shrinks { result ≡ None → Shrinks c.now l.now a.now }
-{
-    let short = contraction_short(&l.p, a, c.rho, squares)?;
-    Some(CertFault::VertexNotShown {
-        axis,
-        vertex,
-        row: short.row,
-        short: short.short,
-    })
-}
-
-// The last list of an axis' vertices, and of its outputs.
-fn third<const N: usize>(lists: &[Squares<N>; 3]) -> &Squares<N>
-    ensures { result.now.list.items ≡ squares_of lists.now 2 }
-{
-    &lists[2]
+    list_condition(c, l, m, Which::Vertex { axis: 0, vertex: 0 })
+        .or(list_condition(c, l, m, Which::Vertex { axis: 0, vertex: 1 }))
+        .or(list_condition(c, l, m, Which::Vertex { axis: 0, vertex: 2 }))
+        .or(list_condition(c, l, m, Which::Vertex { axis: 1, vertex: 0 }))
+        .or(list_condition(c, l, m, Which::Vertex { axis: 1, vertex: 1 }))
+        .or(list_condition(c, l, m, Which::Vertex { axis: 1, vertex: 2 }))
 }
 
 #[tactic(auto, unfolding(crate::specs::Valid::input_condition))]
@@ -229,7 +191,7 @@ fn input_condition<const N: usize>(c: &Cert, l: &Lists<N>, m: &Loop<N>) -> Optio
     ensures enough { result ≡ None
         → (pos 2 *ℤ form l.now.p.at m.now.correction) ≤ℤ (c.now.b *ℤ c.now.b) }
 {
-    if is_enough(c.b, &l.p.at, &m.correction) {
+    if is_enough(c.b, input_square(l, m)) {
         None
     } else {
         Some(CertFault::InputShort)
@@ -246,31 +208,19 @@ fn round_condition<const N: usize>(c: &Cert, l: &Lists<N>, m: &Loop<N>) -> Optio
     ensures enough { result ≡ None
         → (pos 2 *ℤ form (absolute_rows l.now.p.at) m.now.rounding) ≤ℤ (c.now.r *ℤ c.now.r) }
 {
-    let sizes = absolute_rows(&l.p.at);
-    if is_enough(c.r, &sizes, &m.rounding) {
+    if is_enough(c.r, round_square(l, m)) {
         None
     } else {
         Some(CertFault::RoundShort)
     }
 }
 
-// Whether the square of a number is at least twice the form at a vector.
-fn is_enough<const N: usize>(root: i64, p: &[[i128; N]; N], x: &[i128; N]) -> bool
-    requires size { N < 6 }
-    requires root { IsUpTo (pos (2 ^ 50)) root }
-    requires entries { All (All (IsWithin (2 ^ 40))) p.now }
-    requires vector { All (IsWithin (2 ^ 35)) x.now }
-    ensures { result ≡ int_le (pos 2 *ℤ form p.now x.now) (root *ℤ root) }
+// Whether the square of a root is at least a number.
+fn is_enough(root: i64, least: i128) -> bool
+    requires { IsUpTo (pos (2 ^ 50)) root }
+    ensures { result ≡ int_le least (root *ℤ root) }
 {
-    is_root(root, form_of(p, x))
-}
-
-fn is_root(root: i64, form: i128) -> bool
-    requires root { IsUpTo (pos (2 ^ 50)) root }
-    requires form { unsigned_abs form ≤ 2 ^ 121 }
-    ensures { result ≡ int_le (pos 2 *ℤ form) (root *ℤ root) }
-{
-    2 * form <= square(root as i128)
+    least <= square(root as i128)
 }
 
 fn square(root: i128) -> i128
@@ -280,7 +230,7 @@ fn square(root: i128) -> i128
     root * root
 }
 
-#[tactic(auto, unfolding(crate::specs::Valid::first_output))]
+#[tactic(auto, unfolding(crate::specs::Valid::first_output, crate::specs::Valid::output_condition))]
 fn first_output<const N: usize>(c: &Cert, l: &Lists<N>, m: &Loop<N>) -> Option<CertFault>
     requires size { (N ≡ 3) ⊎ (N ≡ 5) }
     requires numbers { AreNumbers c.now }
@@ -292,66 +242,33 @@ fn first_output<const N: usize>(c: &Cert, l: &Lists<N>, m: &Loop<N>) -> Option<C
     ensures sway { result ≡ None → BoundsOutput c.now l.now m.now.sway.output 1 }
     ensures sway_clamped { result ≡ None → BoundsOutput c.now l.now m.now.sway.clamped_output 1 }
 {
-    let surge = &l.output[0];
-    let sway = &l.output[1];
-    output_condition(c, l, &m.surge.output, 0, 0, &surge[0])
-        .or(output_condition(c, l, &m.surge.clamped_output, 0, 1, second(surge)))
-        .or(output_condition(c, l, &m.sway.output, 1, 0, &sway[0]))
-        .or(output_condition(c, l, &m.sway.clamped_output, 1, 1, second(sway)))
+    list_condition(c, l, m, Which::Output { axis: 0, which: 0 })
+        .or(list_condition(c, l, m, Which::Output { axis: 0, which: 1 }))
+        .or(list_condition(c, l, m, Which::Output { axis: 1, which: 0 }))
+        .or(list_condition(c, l, m, Which::Output { axis: 1, which: 1 }))
 }
 
-// That the form bounds what the demand of an axis follows.
-#[tactic(auto, unfolding(crate::specs::Valid::output_condition))]
-fn output_condition<const N: usize>(
-    c: &Cert,
-    l: &Lists<N>,
-    followed: &[i128; N],
-    axis: usize,
-    which: usize,
-    squares: &Squares<N>,
-) -> Option<CertFault>
-    requires size { (N ≡ 3) ⊎ (N ≡ 5) }
-    requires axis { axis < 2 }
+#[tactic(auto, unfolding(crate::specs::Valid::first_span, crate::specs::Valid::span_condition))]
+fn first_span(c: &Cert, l: &Lists<3>, m: &Loop<3>) -> Option<CertFault>
     requires numbers { AreNumbers c.now }
     requires lists { AreLists l.now }
-    requires vector { All (IsWithin (2 ^ 35)) followed.now }
-    requires place { squares.now.list.items ≡ squares_at l.now.output axis which }
-    requires squares { All IsSmallSquare (squares_at l.now.output axis which) }
-    ensures value { result ≡ output_condition c.now l.now followed.now axis which }
-    ensures bounds { result ≡ None → BoundsOutput c.now l.now followed.now axis }
-{
-    let short = output_short(&l.p, followed, number_of(&c.g, axis), squares)?;
-    Some(CertFault::OutputNotShown {
-        axis,
-        which,
-        row: short.row,
-        short: short.short,
-    })
-}
-
-fn second<const N: usize>(lists: &[Squares<N>; 2]) -> &Squares<N>
-    ensures { result.now.list.items ≡ squares_of lists.now 1 }
-{
-    &lists[1]
-}
-
-#[tactic(auto, unfolding(crate::specs::Valid::first_span))]
-fn first_span(l: &Lists<3>) -> Option<CertFault>
-    requires { AreLists l.now }
+    requires small { IsSmallLoop m.now }
     ensures value { result ≡ first_span l.now }
     ensures place { result ≡ None → BoundsCoordinate l.now 0 }
     ensures bias { result ≡ None → BoundsCoordinate l.now 1 }
     ensures velocity { result ≡ None → BoundsCoordinate l.now 2 }
 {
-    span_condition(l, 0, &l.spans[0])
-        .or(span_condition(l, 1, &l.spans[1]))
-        .or(span_condition(l, 2, &l.spans[2]))
+    list_condition(c, l, m, Which::Span { coordinate: 0 })
+        .or(list_condition(c, l, m, Which::Span { coordinate: 1 }))
+        .or(list_condition(c, l, m, Which::Span { coordinate: 2 }))
 }
 
-#[tactic(auto, unfolding(crate::specs::Valid::first_span, crate::specs::Valid::first_wave_span))]
-fn first_wave_span(l: &Lists<5>) -> Option<CertFault>
+#[tactic(auto, unfolding(crate::specs::Valid::first_span, crate::specs::Valid::first_wave_span, crate::specs::Valid::span_condition))]
+fn first_wave_span(c: &Cert, l: &Lists<5>, m: &Loop<5>) -> Option<CertFault>
+    requires numbers { AreNumbers c.now }
     requires lists { AreLists l.now }
     requires wave { AreWaveSpans l.now }
+    requires small { IsSmallLoop m.now }
     ensures value { result ≡ first_wave_span l.now }
     ensures place { result ≡ None → BoundsCoordinate l.now 0 }
     ensures bias { result ≡ None → BoundsCoordinate l.now 1 }
@@ -359,34 +276,9 @@ fn first_wave_span(l: &Lists<5>) -> Option<CertFault>
     ensures wave_p { result ≡ None → BoundsCoordinate l.now 3 }
     ensures wave_q { result ≡ None → BoundsCoordinate l.now 4 }
 {
-    span_condition(l, 0, &l.spans[0])
-        .or(span_condition(l, 1, &l.spans[1]))
-        .or(span_condition(l, 2, &l.spans[2]))
-        .or(span_condition(l, 3, &l.spans[3]))
-        .or(span_condition(l, 4, &l.spans[4]))
-}
-
-// That the form bounds a coordinate.
-#[tactic(auto, unfolding(crate::specs::Valid::span_condition))]
-fn span_condition<const N: usize>(
-    l: &Lists<N>,
-    coordinate: usize,
-    squares: &Squares<N>,
-) -> Option<CertFault>
-    requires size { (N ≡ 3) ⊎ (N ≡ 5) }
-    requires coordinate { coordinate < N }
-    requires lists { AreLists l.now }
-    requires place { squares.now.list.items ≡ squares_of l.now.spans coordinate }
-    requires squares { All IsSmallSquare (squares_of l.now.spans coordinate) }
-    ensures value { result ≡ span_condition l.now coordinate }
-    ensures bounds { result ≡ None → BoundsCoordinate l.now coordinate }
-{
-    let vector = unit(coordinate);
-    let span = number_of(&l.span, coordinate);
-    let short = output_short(&l.p, &vector, span, squares)?;
-    Some(CertFault::SpanNotShown {
-        coordinate,
-        row: short.row,
-        short: short.short,
-    })
+    list_condition(c, l, m, Which::Span { coordinate: 0 })
+        .or(list_condition(c, l, m, Which::Span { coordinate: 1 }))
+        .or(list_condition(c, l, m, Which::Span { coordinate: 2 }))
+        .or(list_condition(c, l, m, Which::Span { coordinate: 3 }))
+        .or(list_condition(c, l, m, Which::Span { coordinate: 4 }))
 }

@@ -33,13 +33,17 @@ mod five_states;
 mod forms;
 mod inside;
 mod judge;
+mod judged;
 pub mod laws;
 mod loops;
 mod matrices;
 mod ranges;
 mod shown;
 mod three_states;
+mod root_numbers;
 mod width;
 
 pub use accepted::{Accepted, accept};
 pub use faults::CertFault;
+pub use judged::{Which, matrix3, matrix5};
+pub use root_numbers::{UnderRoots, under_roots};

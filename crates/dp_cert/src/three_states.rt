@@ -52,7 +52,7 @@ fn rows(g: &Gains, velocity: [i128; 3]) -> [[i128; 3]; 3]
     [place_row(g), bias_row(g), velocity]
 }
 
-fn place_row(g: &Gains) -> [i128; 3]
+pub(crate) fn place_row(g: &Gains) -> [i128; 3]
     requires observer { IsObserverGains g.now }
     ensures value { result ≡ place_row g.now }
     ensures small { All (IsWithin (2 ^ 35)) result }
@@ -60,7 +60,7 @@ fn place_row(g: &Gains) -> [i128; 3]
     three(less(FULL_SCALE, g.k2), 0, Q)
 }
 
-fn bias_row(g: &Gains) -> [i128; 3]
+pub(crate) fn bias_row(g: &Gains) -> [i128; 3]
     requires observer { IsObserverGains g.now }
     ensures value { result ≡ bias_row g.now }
     ensures small { All (IsWithin (2 ^ 35)) result }
@@ -69,7 +69,7 @@ fn bias_row(g: &Gains) -> [i128; 3]
 }
 
 // With the thrust at a limit.
-fn saturated_row(g: &Gains, axis: usize) -> [i128; 3]
+pub(crate) fn saturated_row(g: &Gains, axis: usize) -> [i128; 3]
     requires observer { IsObserverGains g.now }
     ensures value { result ≡ velocity_row g.now axis 0 }
     ensures small { All (IsWithin (2 ^ 35)) result }
@@ -78,7 +78,7 @@ fn saturated_row(g: &Gains, axis: usize) -> [i128; 3]
 }
 
 // With the bias at its limit.
-fn clamped_row(g: &Gains, axis: usize) -> [i128; 3]
+pub(crate) fn clamped_row(g: &Gains, axis: usize) -> [i128; 3]
     requires axis { axis < 2 }
     requires observer { IsObserverGains g.now }
     requires law { IsLawGains g.now }
@@ -91,7 +91,7 @@ fn clamped_row(g: &Gains, axis: usize) -> [i128; 3]
 }
 
 // With neither at a limit.
-fn free_row(g: &Gains, axis: usize) -> [i128; 3]
+pub(crate) fn free_row(g: &Gains, axis: usize) -> [i128; 3]
     requires axis { axis < 2 }
     requires observer { IsObserverGains g.now }
     requires law { IsLawGains g.now }
@@ -104,7 +104,7 @@ fn free_row(g: &Gains, axis: usize) -> [i128; 3]
 }
 
 // What the demand follows, with the bias' share of it.
-fn output_row(g: &Gains, axis: usize, bias: i128) -> [i128; 3]
+pub(crate) fn output_row(g: &Gains, axis: usize, bias: i128) -> [i128; 3]
     requires axis { axis < 2 }
     requires law { IsLawGains g.now }
     requires bias { IsWithin (2 ^ 35) bias }
@@ -114,7 +114,7 @@ fn output_row(g: &Gains, axis: usize, bias: i128) -> [i128; 3]
     three(wide(gain_of(&g.kp, axis)), bias, wide(gain_of(&g.kd, axis)))
 }
 
-fn correction(g: &Gains) -> [i128; 3]
+pub(crate) fn correction(g: &Gains) -> [i128; 3]
     requires observer { IsObserverGains g.now }
     ensures value { result ≡ correction g.now }
     ensures small { All (IsWithin (2 ^ 35)) result }
@@ -122,7 +122,7 @@ fn correction(g: &Gains) -> [i128; 3]
     three(wide(g.k2), wide(g.k3), wide(g.k4))
 }
 
-fn rounding() -> [i128; 3]
+pub(crate) fn rounding() -> [i128; 3]
     ensures value { result ≡ rounding }
     ensures small { All (IsWithin (2 ^ 35)) result }
 {

@@ -18,16 +18,16 @@ returns c =
     let f3 : FitsSigned w128 c.margin-gap.result = record { sfits = c.margin-gap.type_inv } in
     let f4 : FitsSigned w128 c.wide.result = record { sfits = c.wide.type_inv } in
     let f5 : FitsSigned w128 c.wide-2.result = record { sfits = c.wide-2.type_inv } in
-    let f6 : FitsSigned w128 c.moved-moved.result = record { sfits = c.moved-moved.type_inv } in
+    let f6 : FitsSigned w128 c.gain-gain.result = record { sfits = c.gain-gain.type_inv } in
     let f7 : FitsSigned w128 c.rounded-rounded.result = record { sfits = c.rounded-rounded.type_inv } in
-    let f8 : FitsSigned w128 c.besides.result = record { sfits = c.besides.type_inv } in
+    let f8 : FitsSigned w128 c.offset.result = record { sfits = c.offset.type_inv } in
     let surge = c.sizes-surge.ensures.surge in
     let sway = c.sizes-surge.ensures.sway in
     let weight = simp to_z-of_z at c.weight-weight.ensures.value in
     let gap = simp to_z-of_z at c.margin-gap.ensures.value in
     let b = simp to_z-of_z at c.wide.ensures in
     let r = simp to_z-of_z at c.wide-2.ensures in
-    let moved = simp to_z-of_z at c.moved-moved.ensures in
+    let gain = simp to_z-of_z at c.gain-gain.ensures in
     let rounded = simp to_z-of_z at c.rounded-rounded.ensures.value in
-    let besides = simp to_z-of_z at c.besides.ensures in
-    simp to_z-of_z (rw (moved, besides) (rw rounded (rw (weight, gap, b, r) (rw (surge, sway) refl))))
+    let offset = simp to_z-of_z at c.offset.ensures in
+    simp to_z-of_z (rw (gain, offset) (rw rounded (rw (weight, gap, b, r) (rw (surge, sway) refl))))

@@ -3,7 +3,7 @@ use Rattle.std.proofs.lemmas.Int.{ints, to_z-of_z}
 use mir.Syntax.{w128}
 use Rattle.dp_fixed.specs.Scale.{full_scale}
 use Rattle.dp_fixed.specs.Division.{ceil_of}
-use Rattle.dp_cert.proofs.bound.moved.Goals as goal
+use Rattle.dp_cert.proofs.bound.gain.Goals as goal
 
 pub returns : goal.returns
 returns c =
