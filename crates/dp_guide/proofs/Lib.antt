@@ -1,0 +1,5 @@
+pub mod Ways
+pub mod Courses
+pub mod Headings
+pub mod Rows
+pub mod Motions

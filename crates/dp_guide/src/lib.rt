@@ -1,0 +1,22 @@
+//! A setpoint that moves to a target with limited rates and accelerations, and the list of moves that it follows.
+//!
+//! A [`Guide`] is at rest on a setpoint until [`Guide::go`] gives it a target; each [`Guide::step`] is one cycle. North, east and the
+//! heading move each for itself: the velocity of the next cycle is the greatest one toward the target that keeps the coordinate's rate
+//! and acceleration, and from which it can still slow down to stand on the target. The heading turns the shorter way round, across
+//! north too. `specs/Course` defines one coordinate, `specs/Motion` all three.
+//!
+//! What is proved: each setpoint is exactly the one defined; in every cycle each velocity is within its rate and differs from the one
+//! before by at most the acceleration, no coordinate passes its target, and each that isn't there yet moves by at least the least of
+//! its acceleration, its rate and the way left. So from rest at distance D it stands exactly on its target after at most
+//! ceil(D / min(acceleration, rate)) cycles, and stays ([`laws`]). No call fails or takes memory.
+#![tactic(auto)]
+
+mod ahead;
+mod guide;
+pub mod laws;
+mod motion;
+mod stopping;
+mod velocity;
+
+pub use guide::Guide;
+pub use motion::{GuideLimits, Motion, Velocity};
