@@ -1,8 +1,8 @@
 //! Records that are read a frame a call, over shelves that give few bytes at once and that fail.
-use dp_plant::samples::S1;
 use dp_shell::{MemoryShelf, Shelf};
 use dp_stream::{End, MadeShelf, Next, RecordReader};
 use dp_test_rows::plant_with;
+use dp_test_rows::samples::S1;
 use dp_trig::Trig;
 use std::alloc::Global;
 use std::process::Abort;
