@@ -134,11 +134,7 @@ fn correction(g: &Gains) -> [i128; 5]
     ensures value { result ≡ wave_correction g.now }
     ensures small { All (IsWithin (2 ^ 35)) result }
 {
-    with_waves(
-        &three_states::correction(g),
-        wide(g.k1[0]),
-        wide(g.k1[1]),
-    )
+    with_waves(&three_states::correction(g), wide(g.k1[0]), wide(g.k1[1]))
 }
 
 fn rounding() -> [i128; 5]

@@ -17,19 +17,11 @@ use dp_plant::{Cert, Gains, Lists, Parts};
 #[derive(Clone, Copy, Debug, PartialEq, Eq)]
 pub enum Which {
     /// That an axis' loop shrinks the form at a vertex: 0 with the thrust at a limit, 1 with the bias at its limit, 2 with neither.
-    Vertex {
-        axis: usize,
-        vertex: usize,
-    },
+    Vertex { axis: usize, vertex: usize },
     /// That the form bounds what the demand of an axis follows: 0 with the bias, 1 with the bias at its limit.
-    Output {
-        axis: usize,
-        which: usize,
-    },
+    Output { axis: usize, which: usize },
     /// That the form bounds a coordinate.
-    Span {
-        coordinate: usize,
-    },
+    Span { coordinate: usize },
 }
 
 /// A matrix of a certificate without a wave filter. Its numbers are in range.
@@ -69,12 +61,7 @@ pub fn matrix5(g: &Gains, c: &Cert, which: Which) -> Sym<5>
 }
 
 /// A matrix, by the loop of the gains.
-pub(crate) fn matrix_of<const N: usize>(
-    c: &Cert,
-    l: &Lists<N>,
-    m: &Loop<N>,
-    which: Which,
-) -> Sym<N>
+pub(crate) fn matrix_of<const N: usize>(c: &Cert, l: &Lists<N>, m: &Loop<N>, which: Which) -> Sym<N>
     requires size { (N ≡ 3) ⊎ (N ≡ 5) }
     requires numbers { AreNumbers c.now }
     requires lists { AreLists l.now }

@@ -38,9 +38,9 @@ pub mod laws;
 mod loops;
 mod matrices;
 mod ranges;
+mod root_numbers;
 mod shown;
 mod three_states;
-mod root_numbers;
 mod width;
 
 pub use accepted::{Accepted, accept};

@@ -5,9 +5,9 @@ ghost use Rattle.dp_cert.specs.{AreLists, AreNumbers, IsSmallLoop, first_short, 
 ghost use Rattle.dp_cert.specs.Judged.{IsWhichOf, Says, fault_for, judged, squares_for};
 ghost use Rattle.dp_cert.specs.Valid.{shown};
 
+use crate::CertFault;
 use crate::judged::{Which, matrix_of};
 use crate::loops::Loop;
-use crate::CertFault;
 use dp_form::{NotShown, Squares, Sym, is_nonneg};
 use dp_plant::{Cert, Lists};
 

@@ -1,4 +1,4 @@
-use Rattle.std.proofs.Common.{◌≡◌, ◌^◌, ◌++◌, List, [], ◌∷◌, length, refl, ap, sym, arith, get_or, ℤ, pos, FitsSigned}
+use Rattle.std.proofs.Common.{◌≡◌, ◌^◌, ◌++◌, List, [], ◌∷◌, length, ap, sym, arith, get_or, ℤ, pos, FitsSigned}
 use Rattle.std.proofs.lemmas.Int.{ints, to_z-of_z}
 use mir.Syntax.{w128}
 use Rattle.dp_form.specs.Range.{IsWithin}
