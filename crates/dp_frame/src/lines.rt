@@ -315,6 +315,7 @@ impl Lines {
         ensures closes { ClosesCycle self.old.progress.kept.cycle result }
         ensures next { self.new.phase ≢ Phase.Done
             → self.new.progress.kept.cycle ≡ self.old.progress.kept.cycle + length (given result) }
+        ensures bytes { self.new.bytes ≡ self.old.bytes }
         ensures settings { self.new.progress.settings ≡ self.old.progress.settings }
     {
         if let Some(refusal) = self.progress.refusal {
@@ -345,6 +346,7 @@ impl Lines {
         ensures closes { ClosesCycle self.old.progress.kept.cycle result }
         ensures next { self.new.phase ≢ Phase.Done
             → self.new.progress.kept.cycle ≡ self.old.progress.kept.cycle + length (given result) }
+        ensures bytes { self.new.bytes ≡ self.old.bytes }
         ensures settings { self.new.progress.settings ≡ self.old.progress.settings }
     {
         if self.prefix_len == 0 {
