@@ -15,9 +15,9 @@ class Install(ToolTest):
             self.tool("install", "--program", stand_in, "place")
         place = os.path.join(self.folder, "place")
         self.assertEqual("here\n", subprocess.run([os.path.join(place, "bin", "dp")], capture_output=True, check=True).stdout.decode())
-        for tool in ("log2record", "look", "blocks2csv"):
+        for tool in ("log2record", "look", "blocks2csv", "design", "capability"):
             subprocess.run([os.path.join(place, "bin", "dp-" + tool), "--help"], capture_output=True, check=True)
-        for file in ("share/man/man1/dp.1", "share/dp/plants/S1.toml", "share/dp/samples/log/pos0.log", "share/dp/docs/FORMATS.md"):
+        for file in ("share/man/man1/dp.1", "share/man/man1/dp-design.1", "share/dp/vessels/osv90.toml", "share/dp/plants/S1.toml", "share/dp/samples/log/pos0.log", "share/dp/docs/FORMATS.md"):
             self.assertTrue(os.path.isfile(os.path.join(place, file)), file)
 
     def test_refusals(self):
@@ -41,8 +41,9 @@ class Manual(ToolTest):
     def test_layout(self):
         if not shutil.which("groff"):
             self.skipTest("it wants groff")
-        done = subprocess.run(["groff", "-mdoc", "-ww", "-Tascii", "-z", at_root("man", "dp.1")], capture_output=True, check=True)
-        self.assertEqual(b"", done.stderr)
+        for page in sorted(os.listdir(at_root("man"))):
+            done = subprocess.run(["groff", "-mdoc", "-ww", "-Tascii", "-z", at_root("man", page)], capture_output=True, check=True)
+            self.assertEqual(b"", done.stderr, page)
 
 
 class Samples(ToolTest):
