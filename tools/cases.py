@@ -404,3 +404,48 @@ def case(rng):
     kind = rng.randrange(6)
     text = watch(rng) if kind < 2 else record(rng, plain_line if kind == 2 else rich_line)
     return text, script(rng)
+
+
+def replaced(rng, text):
+    """A record, and another that differs in what one position reference tells: dropped, moved, frozen or damaged lines of it, or also other
+    lines, now and then."""
+    wire = "pos%d" % rng.randrange(3)
+    kind = rng.choice(["dropped", "moved", "some", "damaged", "same", "other"])
+    far = rng.choice([1, 100, 5000, 1000000])
+    lines = []
+    for line in text.splitlines(keepends=True):
+        parts = line.split(" ")
+        if len(parts) < 3 or (parts[1] != wire and not (kind == "other" and one_in(rng, 20))):
+            lines.append(line)
+            continue
+        if kind == "dropped" or kind == "other" or kind == "some" and one_in(rng, 2):
+            continue
+        if kind == "damaged":
+            lines.append(" ".join(parts[:2]) + " x\n")
+        elif kind == "moved" and parts[2] == "L" and len(parts) == 5:
+            lines.append(" ".join(parts[:3]) + " %d %d\n" % (rng.randrange(-far, far + 1), rng.randrange(-far, far + 1)))
+        else:
+            lines.append(line)
+    second = "".join(lines)
+    if one_in(rng, 6):
+        second = second[: rng.randrange(len(second) + 1)]
+    return [text, second] if one_in(rng, 2) else [second, text]
+
+
+def moves(rng):
+    """A list of moves of the setpoint, good and faulty."""
+    if one_in(rng, 10):
+        return rng.choice(["", "\n", "# none\n", "\r\n"])
+    lines, cycle = [], rng.choice([0, 0, 0, 1, 5])
+    faulty = one_in(rng, 4)
+    far = rng.choice([10, 1000, 100000, 8796093])
+    for _ in range(rng.choice([1, 1, 2, 3, 8])):
+        if one_in(rng, 10):
+            lines.append(rng.choice(["", "#", "# a remark", "#" * 300]))
+        place = [rng.randrange(-far, far + 1) if not one_in(rng, 3) else 0 for _ in range(2)]
+        lines.append("%d %d %d %d" % (cycle, place[0], place[1], rng.choice([0, 0, 9000, 18000, 35999, rng.randrange(36000)])))
+        if faulty and one_in(rng, 3):
+            lines.append(rng.choice(["%d 0 0" % cycle, "%d 0 0 0 0" % cycle, "x 0 0 0", "%d 8796094 0 0" % cycle, "%d 0 0 36000" % cycle, "%d 0 0 -1" % cycle,
+                                     "1048576 0 0 0", "0 0 0 0", "%d  0 0 0" % cycle, "%d 1.5 0 0" % cycle, "%d 0 0 0%s" % (cycle, " " * 200), "99999999999 0 0 0"]))
+        cycle += rng.choice([0, 1, 2, 10])
+    return ended(rng, lines)

@@ -12,6 +12,10 @@ PROGRAM is the built program (crates/dp_app/out/dp_app after `rt ci`), REFERENCE
 - `cert1`, `cert2`: gains and certificates of either version that are varied, by `check`.
 - `trial`, `trial2`: random plants that are sound, by `trial` of a random number.
 - `make`: random numbers, and words that are none, by `make`; the whole record is compared.
+- `squares1`, `squares2`: gains and certificates of either version, varied and with lists left out, by `squares`.
+- `compare`: random plants, a record and another that differs in one reference, mostly, by `compare` of a random wire.
+- `drift`: random plants and records, by `drift` with a random limit and number of cycles.
+- `guide`: random plants with limits of a moving setpoint, lists of moves and records, by `guide`.
 
 Output and exit status have to be equal. A case that differs is made smaller, line by line, and printed. Nothing here is part of the gate.
 """
@@ -23,6 +27,7 @@ import tempfile
 
 sys.dont_write_bytecode = True
 import cases  # noqa: E402
+from cases import one_in  # noqa: E402
 import plants  # noqa: E402
 
 KINDS = {
@@ -34,6 +39,11 @@ KINDS = {
     "trial": lambda rng: [plants.text_of(plants.sound(rng))],
     "trial2": lambda rng: [plants.text_of(plants.sound(rng, 2))],
     "make": lambda rng: [],
+    "squares1": lambda rng: [plants.text_of(plants.bare_certificate(rng, 1))],
+    "squares2": lambda rng: [plants.text_of(plants.bare_certificate(rng, 2))],
+    "compare": lambda rng: [plants.text_of(plants.sound(rng, rng.choice([1, 1, 2])))] + cases.replaced(rng, cases.case(rng)[0]),
+    "drift": lambda rng: [plants.text_of(plants.sound(rng, rng.choice([1, 1, 2]))), cases.case(rng)[0]],
+    "guide": lambda rng: [plants.text_of(plants.guided(rng)), cases.moves(rng), cases.case(rng)[0]],
 }
 
 # What comes before and after the names of the files.
@@ -46,7 +56,23 @@ COMMANDS = {
     "trial": (["trial"], True),
     "trial2": (["trial"], True),
     "make": (["make"], True),
+    "squares1": (["squares"], False),
+    "squares2": (["squares"], False),
+    "compare": (["compare"], True),
+    "drift": (["drift"], True),
+    "guide": (["guide"], False),
 }
+
+
+def last_words(rng, kind):
+    """The words behind the names of the files."""
+    if kind == "compare":
+        return [rng.choice(["0", "1", "2", "0", "1", "2", "0", "1", "2", "3", "", "00", "x", "-1"])]
+    if kind == "drift":
+        limit = rng.choice(["0", "1", "1000", "50000", "1000000000"]) if not one_in(rng, 12) else rng.choice(["1000000001", "00000000001", "x", "", "-1", "99999999999"])
+        count = rng.choice(["1", "60", "600", "100000"]) if not one_in(rng, 12) else rng.choice(["0", "1048576", "1048577", "00000001", "x", "", "-1"])
+        return [limit, count]
+    return [number_word(rng)]
 
 
 def number_word(rng):
@@ -62,12 +88,12 @@ def answer(command, words):
 
 
 class Pair:
-    """The two programs, and a folder for the files of a case: a plant, and for a replay a record and a script."""
+    """The two programs, and a folder for the files of a case: a plant, and two more as the command names them."""
 
     def __init__(self, ours, theirs, folder, command):
         self.ours, self.theirs, self.command = ours, theirs, command
         self.after = []
-        self.names = [os.path.join(folder, name) for name in ["plant", "record", "script"]]
+        self.names = [os.path.join(folder, name) for name in ["plant", "second", "third"]]
 
     def answers(self, texts, words=None):
         for name, text in zip(self.names, texts):
@@ -109,7 +135,7 @@ def smaller(pair, texts):
 
 
 def report(texts, ours, theirs):
-    print(*("%s %r" % one for one in zip(["plant", "record", "script"], texts)), sep="\n")
+    print(*("%s %r" % one for one in zip(["plant", "second", "third"], texts)), sep="\n")
     print("ours   %r" % (ours,), "theirs %r" % (theirs,), sep="\n")
     sys.exit(1)
 
@@ -126,7 +152,7 @@ def main():
         pair = Pair([words[3]], words[5:], folder, command)
         for number in range(count):
             texts = KINDS[words[0]](rng)
-            pair.after = [number_word(rng)] if has_number else []
+            pair.after = last_words(rng, words[0]) if has_number else []
             odd = odd_words(rng, pair.names) if cases.one_in(rng, 40) else None
             ours, theirs = pair.answers(texts, odd)
             statuses[ours[0]] = statuses.get(ours[0], 0) + 1

@@ -197,3 +197,31 @@ def certificate(rng, version):
                 place = rng.randrange(len(row))
                 row[place] += rng.choice([1, -1, row[place], 1000, -1000, 1 << 40])
     return plant
+
+
+def bare_certificate(rng, version):
+    """The same with lists left out, in part or all, and other roots: what `squares` makes anew."""
+    plant = certificate(rng, version)
+    cert = plant["cert"]
+    kind = rng.randrange(4)
+    for key, value in cert.items():
+        if isinstance(value, list) and (not value or isinstance(value[0], list)) and key != "form" and (kind == 0 or kind == 1 and one_in(rng, 2)):
+            cert[key] = []
+    if kind < 2:
+        cert["b"], cert["r"] = rng.choice([0, cert["b"]]), rng.choice([0, cert["r"]])
+    return plant
+
+
+def guided(rng):
+    """A sound plant with the limits of a setpoint that moves, good and faulty."""
+    plant = sound(rng, rng.choice([1, 1, 2]))
+    most = rng.choice([10 ** 6, 10 ** 8, 10 ** 9, 1 << 31])
+    plant["guide"] = {"rate": [rng.randrange(1, most + 1) for _ in range(3)], "accel": [rng.randrange(1, most + 1) for _ in range(3)]}
+    if one_in(rng, 8):
+        key = rng.choice(["rate", "accel"])
+        kind = rng.randrange(4)
+        if kind == 0:
+            del plant["guide"][key]
+        else:
+            plant["guide"][key] = rng.choice([[0, 1, 1], [1, 1, (1 << 31) + 1], [1, 1], "x", 5, [1.5, 1, 1], [1, -1, 1]])
+    return plant
