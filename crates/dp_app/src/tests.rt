@@ -11,6 +11,7 @@ mod refusals;
 mod replays;
 mod streams;
 mod trials;
+mod vessels;
 
 /// What a replay of these files is asked with.
 const REPLAY: [&str; 4] = ["replay", "plant", "record", "script"];

@@ -9,5 +9,5 @@ mod plants;
 mod rows;
 pub mod samples;
 
-pub use plants::{edited, plant_with};
+pub use plants::{edited, edited_text, plant_with};
 pub use rows::{cut, natural, number, parts};
