@@ -1,5 +1,5 @@
 -- Where no computer's name was used for a force, what a voter holds of a computer is of its own trajectory.
-use Rattle.std.proofs.Common.{Bool, List, None, Some, [], ap, false, if◌then◌else◌, inl, inr, refl, subst, suc, true, ℕ, ℤ, ◌&&◌, ◌||◌, ◌∙◌, ◌∷◌, ◌≡◌, length}
+use Rattle.std.proofs.Common.{Bool, List, None, Some, [], ap, false, if◌then◌else◌, inl, inr, refl, subst, true, ℕ, ℤ, ◌&&◌, ◌||◌, ◌∙◌, ◌∷◌, ◌≡◌, length}
 use Rattle.std.proofs.lemmas.Bool.{and_parts, or_parts}
 use Rattle.dp_core.proofs.Moments.{IsTaken-from_order, moment}
 use Rattle.dp_core.proofs.OwnForces.{issue-own_force}
