@@ -1,1 +1,3 @@
 pub mod LeastRoots
+pub mod RowLines
+pub mod SameLists

@@ -1,9 +1,9 @@
 //! Arrays of the plant file as text.
-ghost use Rattle.std.specs.Prelude.{◌≡◌, ◌≤◌, ◌<◌, ◌+◌, ◌*◌, ◌++◌, length, map};
+ghost use Rattle.std.specs.Prelude.{◌≡◌, ◌≤◌, ◌<◌, ◌+◌, ◌*◌, ◌++◌, length};
 ghost use Rattle.std.specs.Fmt.{signed_decimal};
 ghost use Rattle.std.specs.List.{flat_map};
 ghost use Rattle.arrayvec.specs.ArrayVec.{array_vec_len};
-ghost use Rattle.dp_plant.specs.PlantFile.{square_row, square_rows};
+ghost use Rattle.dp_plant.specs.PlantFile.{square_row};
 ghost use Rattle.dp_squares.specs.Text.{array_text, later, numbers_text};
 
 use arrayvec::ArrayVec;
@@ -74,7 +74,7 @@ fn append_later_wide(into: &mut ArrayVec<u8, LINE>, numbers: &[i128])
 pub(crate) fn append_squares<const N: usize>(into: &mut ArrayVec<u8, LINE>, squares: &Squares<N>)
     requires size { N < 6 }
     requires room { array_vec_len into.old + 1100 ≤ LINE }
-    ensures text { into.new.items ≡ into.old.items ++ array_text numbers_text (square_rows squares.now) }
+    ensures text { into.new.items ≡ into.old.items ++ array_text (λ q. numbers_text (square_row q)) squares.now.list.items }
     ensures len { array_vec_len into.new ≤ array_vec_len into.old + 1100 }
 {
     match squares.list.as_slice().split_first() {
@@ -92,7 +92,7 @@ fn append_later_squares<const N: usize>(into: &mut ArrayVec<u8, LINE>, squares: 
     requires size { N < 6 }
     requires room { array_vec_len into.old + 136 * length squares.now ≤ LINE }
     ensures text { into.new.items
-        ≡ into.old.items ++ flat_map (later numbers_text) (map square_row squares.now) }
+        ≡ into.old.items ++ flat_map (later (λ q. numbers_text (square_row q))) squares.now }
     ensures len { array_vec_len into.new ≤ array_vec_len into.old + 136 * length squares.now }
 {
     for square in squares {

@@ -14,6 +14,9 @@ use dp_text::{append, append_number};
 /// A line, with its line feed.
 pub type Line = ArrayVec<u8, LINE>;
 
+/// How many lists of squares there are but for the coordinates'.
+const STEPS: usize = 11;
+
 /// How many lines a certificate has: the section's name, and one for each key.
 #[tactic(auto, unfolding(crate::specs::Text::cert_text, crate::specs::Text::cert_rows, crate::specs::Text::number_rows, crate::specs::Text::step_rows, crate::specs::Text::span_rows, crate::specs::Text::wave_span_rows))]
 pub fn line_count(c: &Cert) -> usize
@@ -68,33 +71,72 @@ fn part_line(parts: &Parts, i: usize) -> Line
     }
 }
 
-#[tactic(auto, unfolding(crate::specs::Text::step_rows, crate::specs::Text::span_rows))]
 fn three_line(l: &Lists<3>, i: usize) -> Line
     ensures { result.items ≡ line_at (part_rows (Three l.now)) i }
 {
     match i {
         0 => wide_line(b"p", &upper_three(&l.p)),
         1 => numbers_line(b"span", &l.span),
-        13 => squares_line(b"span0", &l.spans[0]),
-        14 => squares_line(b"span1", &l.spans[1]),
-        15 => squares_line(b"span2", &l.spans[2]),
-        _ => step_line(l, i - 2),
+        _ => three_list_line(l, i - 2),
     }
 }
 
-#[tactic(auto, unfolding(crate::specs::Text::step_rows, crate::specs::Text::span_rows, crate::specs::Text::wave_span_rows))]
 fn five_line(l: &Lists<5>, i: usize) -> Line
     ensures { result.items ≡ line_at (part_rows (Five l.now)) i }
 {
     match i {
         0 => wide_line(b"p", &upper_five(&l.p)),
         1 => numbers_line(b"span", &l.span),
-        13 => squares_line(b"span0", &l.spans[0]),
-        14 => squares_line(b"span1", &l.spans[1]),
-        15 => squares_line(b"span2", &l.spans[2]),
-        16 => squares_line(b"span3", &l.spans[3]),
-        17 => squares_line(b"span4", &l.spans[4]),
-        _ => step_line(l, i - 2),
+        _ => five_list_line(l, i - 2),
+    }
+}
+
+/// The lines of the lists of squares.
+fn three_list_line(l: &Lists<3>, i: usize) -> Line
+    ensures { result.items ≡ line_at (step_rows l.now ++ span_rows l.now) i }
+{
+    if i < STEPS {
+        step_line(l, i)
+    } else {
+        three_span_line(l, i - STEPS)
+    }
+}
+
+fn five_list_line(l: &Lists<5>, i: usize) -> Line
+    ensures { result.items
+        ≡ line_at (step_rows l.now ++ (span_rows l.now ++ wave_span_rows l.now)) i }
+{
+    if i < STEPS {
+        step_line(l, i)
+    } else {
+        five_span_line(l, i - STEPS)
+    }
+}
+
+/// The lines of the coordinates' lists; empty past them.
+#[tactic(auto, unfolding(crate::specs::Text::span_rows))]
+fn three_span_line(l: &Lists<3>, i: usize) -> Line
+    ensures { result.items ≡ line_at (span_rows l.now) i }
+{
+    match i {
+        0 => squares_line(b"span0", &l.spans[0]),
+        1 => squares_line(b"span1", &l.spans[1]),
+        2 => squares_line(b"span2", &l.spans[2]),
+        _ => ArrayVec::new(),
+    }
+}
+
+#[tactic(auto, unfolding(crate::specs::Text::span_rows, crate::specs::Text::wave_span_rows))]
+fn five_span_line(l: &Lists<5>, i: usize) -> Line
+    ensures { result.items ≡ line_at (span_rows l.now ++ wave_span_rows l.now) i }
+{
+    match i {
+        0 => squares_line(b"span0", &l.spans[0]),
+        1 => squares_line(b"span1", &l.spans[1]),
+        2 => squares_line(b"span2", &l.spans[2]),
+        3 => squares_line(b"span3", &l.spans[3]),
+        4 => squares_line(b"span4", &l.spans[4]),
+        _ => ArrayVec::new(),
     }
 }
 

@@ -8,6 +8,6 @@ use Rattle.dp_squares.proofs.arrays.append_later_squares.Given as goal
 
 abbrev pub invariant-loop-square : goal.invariant-loop-square
 invariant-loop-square g l = record {
-  text : l.into.items ≡ l.initial.into.items ++ flat_map (λ q. later numbers_text (square_row q)) (take l.square-index l.squares);
+  text : l.into.items ≡ l.initial.into.items ++ flat_map (later (λ q. numbers_text (square_row q))) (take l.square-index l.squares);
   room : array_vec_len l.into ≤ array_vec_len l.initial.into + 136 * l.square-index;
 }
