@@ -1,4 +1,5 @@
-//! What the tests of several crates share: how a row of a table is read, one string each, and the sample plants with lines edited.
+//! What the tests of several crates share: how a row of a table is read, one string each, and the sample plants, as they are and with lines
+//! edited.
 //!
 //! It holds no test and nothing of the program, and stands on `dp_plant` alone, so that the crates of tests beside each other have it
 //! once.
@@ -6,6 +7,7 @@
 
 mod plants;
 mod rows;
+pub mod samples;
 
-pub use plants::{edited, plant_with};
+pub use plants::{edited, edited_text, plant_with};
 pub use rows::{cut, natural, number, parts};

@@ -17,7 +17,8 @@ pub fn edited(alloc: Global, lines: &[&str], edits: &str) -> Result<Plant, Plant
     }
 }
 
-fn edited_text(alloc: Global, lines: &[&str], edits: &str) -> Result<String, AllocError> {
+/// The text of a file with some of its lines edited, up to thirty-two of them.
+pub fn edited_text(alloc: Global, lines: &[&str], edits: &str) -> Result<String, AllocError> {
     let mut text = String::new(alloc);
     for (number, line) in lines.iter().enumerate() {
         text.push_str(edited_line(number, edits).unwrap_or(*line))?;
@@ -26,10 +27,10 @@ fn edited_text(alloc: Global, lines: &[&str], edits: &str) -> Result<String, All
     Ok(text)
 }
 
-/// What a line is to be, by the first three edits.
+/// What a line is to be, by the first thirty-two edits.
 fn edited_line(number: usize, edits: &str) -> Option<&str> {
     let mut rest = edits;
-    for _ in 0..3 {
+    for _ in 0..32 {
         let (edit, behind) = cut(rest, ';');
         let (at, line) = cut(edit, ' ');
         if at.parse::<usize>().ok() == Some(number) {
