@@ -1,5 +1,5 @@
 -- No condition behind the ranges is refused as a range.
-use Rattle.std.proofs.Common.{◌≡◌, ℕ, ℤ, List, [], ◌∷◌, Bool, true, false, Option, Some, None, refl, sym, ap, ◌∙◌}
+use Rattle.std.proofs.Common.{◌≡◌, ℕ, ℤ, List, [], ◌∷◌, Bool, true, false, Option, Some, None, refl, ap, ◌∙◌}
 use Rattle.std.specs.Option.{option_map, option_or}
 use Rattle.dp_form.specs.declared.NotShown.{NotShown}
 use Rattle.dp_plant.specs.declared.cert.Cert.{Cert}
@@ -16,11 +16,11 @@ use Rattle.dp_cert.specs.Valid.{IsRefusal, first_fault, first_of, first_output, 
 use Rattle.dp_squares.specs.Ranges.{range_of}
 
 -- a condition whose fault, if there is one, names no range
-NamesNone : Option CertFault → Type 0
+abbrev pub NamesNone : Option CertFault → Type 0
 NamesNone None = Unit {0}
 NamesNone (Some fault) = range_of fault ≡ None
 
-EachNamesNone : List (Option CertFault) → Type 0
+abbrev pub EachNamesNone : List (Option CertFault) → Type 0
 EachNamesNone [] = Unit {0}
 EachNamesNone (o ∷ os) = NamesNone o × EachNamesNone os
 
@@ -55,19 +55,23 @@ span_none l i = mapped_none (λ (s : NotShown). SpanNotShown i s.row s.short) _ 
 
 vertices_none : {n : ℕ} (c : Cert) (l : Lists n) (m : Loop n) → NamesNone (first_vertex c l m)
 unfolding first_vertex
-vertices_none c l m = first_none _ _ (vertex_none c l m.surge.saturated 0 0) (vertex_none c l m.surge.clamped 0 1, (vertex_none c l m.surge.free 0 2, (vertex_none c l m.sway.saturated 1 0, (vertex_none c l m.sway.clamped 1 1, (vertex_none c l m.sway.free 1 2, tt)))))
+vertices_none c l m = first_none (vertex_condition c l m.surge.saturated 0 0)
+    (vertex_condition c l m.surge.clamped 0 1 ∷ vertex_condition c l m.surge.free 0 2 ∷ vertex_condition c l m.sway.saturated 1 0 ∷ vertex_condition c l m.sway.clamped 1 1 ∷ vertex_condition c l m.sway.free 1 2 ∷ [])
+    (vertex_none c l m.surge.saturated 0 0) (vertex_none c l m.surge.clamped 0 1, (vertex_none c l m.surge.free 0 2, (vertex_none c l m.sway.saturated 1 0, (vertex_none c l m.sway.clamped 1 1, (vertex_none c l m.sway.free 1 2, tt)))))
 
 outputs_none : {n : ℕ} (c : Cert) (l : Lists n) (m : Loop n) → NamesNone (first_output c l m)
 unfolding first_output
-outputs_none c l m = first_none _ _ (output_none c l m.surge.output 0 0) (output_none c l m.surge.clamped_output 0 1, (output_none c l m.sway.output 1 0, (output_none c l m.sway.clamped_output 1 1, tt)))
+outputs_none c l m = first_none (output_condition c l m.surge.output 0 0)
+    (output_condition c l m.surge.clamped_output 0 1 ∷ output_condition c l m.sway.output 1 0 ∷ output_condition c l m.sway.clamped_output 1 1 ∷ [])
+    (output_none c l m.surge.output 0 0) (output_none c l m.surge.clamped_output 0 1, (output_none c l m.sway.output 1 0, (output_none c l m.sway.clamped_output 1 1, tt)))
 
 spans_none : {n : ℕ} (l : Lists n) → NamesNone (first_span l)
 unfolding first_span
-spans_none l = first_none _ _ (span_none l 0) (span_none l 1, (span_none l 2, tt))
+spans_none l = first_none (span_condition l 0) (span_condition l 1 ∷ span_condition l 2 ∷ []) (span_none l 0) (span_none l 1, (span_none l 2, tt))
 
 wave_spans_none : (l : Lists 5) → NamesNone (first_wave_span l)
 unfolding first_wave_span
-wave_spans_none l = first_none _ _ (spans_none l) (span_none l 3, (span_none l 4, tt))
+wave_spans_none l = first_none (first_span l) (span_condition l 3 ∷ span_condition l 4 ∷ []) (spans_none l) (span_none l 3, (span_none l 4, tt))
 
 rate_none : (c : Cert) → NamesNone (rate_condition c)
 unfolding rate_condition
@@ -92,7 +96,8 @@ width_none c l = mapped_none TooWide _ (λ i. refl)
 list_none : {n : ℕ} (c : Cert) (l : Lists n) (m : Loop n) (spans : Option CertFault) → NamesNone spans → NamesNone (list_fault c l m spans)
 unfolding list_fault first_shape
 list_none c l m spans h =
-    or_none _ _ (first_none _ _ (rate_none c) (form_none l, (vertices_none c l m, (input_none c l m, (round_none c l m, (outputs_none c l m, (h, tt))))))) (width_none c l)
+    or_none (first_of (rate_condition c) (form_condition l ∷ first_vertex c l m ∷ input_condition c l m ∷ round_condition c l m ∷ first_output c l m ∷ spans ∷ [])) (width_condition c l)
+    (first_none (rate_condition c) (form_condition l ∷ first_vertex c l m ∷ input_condition c l m ∷ round_condition c l m ∷ first_output c l m ∷ spans ∷ []) (rate_none c) (form_none l, (vertices_none c l m, (input_none c l m, (round_none c l m, (outputs_none c l m, (h, tt))))))) (width_none c l)
 
 part_none : (g : Gains) (c : Cert) (parts : Parts) → NamesNone (part_fault g c parts)
 part_none g c (Three l) = list_none c l (loop_three g) (first_span l) (spans_none l)

@@ -8,7 +8,7 @@ ghost use Rattle.dp_squares.specs.Text.{array_text, later, numbers_text};
 
 use arrayvec::ArrayVec;
 use dp_form::{Square, Squares};
-use dp_text::{append, append_wide, append_number};
+use dp_text::{append, append_number, append_wide};
 
 /// Bytes that a line can have: a key, and at most eight squares of at most six numbers.
 pub const LINE: usize = 1280;

@@ -33,11 +33,7 @@ pub fn line_count(c: &Cert) -> usize
 pub fn cert_line(c: &Cert, i: usize) -> Line
     ensures { result.items ≡ slice_index_or (cert_text c.now) i [] }
 {
-    if i == 0 {
-        header()
-    } else {
-        row_line(c, i - 1)
-    }
+    if i == 0 { header() } else { row_line(c, i - 1) }
 }
 
 fn header() -> Line

@@ -75,7 +75,10 @@ fn three_vertices(g: &Gains, c: &Cert) -> [[Squares<3>; 3]; 2]
     requires size { state_count c.now.parts ≡ 3 }
     ensures { result ≡ vertex_lists g.now c.now 0 ∷ vertex_lists g.now c.now 1 ∷ [] }
 {
-    [axis_vertices_of_three(g, c, 0), axis_vertices_of_three(g, c, 1)]
+    [
+        axis_vertices_of_three(g, c, 0),
+        axis_vertices_of_three(g, c, 1),
+    ]
 }
 
 fn three_outputs(g: &Gains, c: &Cert) -> [[Squares<3>; 2]; 2]
@@ -86,7 +89,10 @@ fn three_outputs(g: &Gains, c: &Cert) -> [[Squares<3>; 2]; 2]
     requires size { state_count c.now.parts ≡ 3 }
     ensures { result ≡ output_lists g.now c.now 0 ∷ output_lists g.now c.now 1 ∷ [] }
 {
-    [axis_outputs_of_three(g, c, 0), axis_outputs_of_three(g, c, 1)]
+    [
+        axis_outputs_of_three(g, c, 0),
+        axis_outputs_of_three(g, c, 1),
+    ]
 }
 
 fn three_spans(g: &Gains, c: &Cert) -> [Squares<3>; 3]
@@ -174,7 +180,10 @@ fn five_vertices(g: &Gains, c: &Cert) -> [[Squares<5>; 3]; 2]
     requires size { state_count c.now.parts ≡ 5 }
     ensures { result ≡ vertex_lists g.now c.now 0 ∷ vertex_lists g.now c.now 1 ∷ [] }
 {
-    [axis_vertices_of_five(g, c, 0), axis_vertices_of_five(g, c, 1)]
+    [
+        axis_vertices_of_five(g, c, 0),
+        axis_vertices_of_five(g, c, 1),
+    ]
 }
 
 fn five_outputs(g: &Gains, c: &Cert) -> [[Squares<5>; 2]; 2]

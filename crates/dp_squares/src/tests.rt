@@ -10,7 +10,8 @@ use std::alloc::Global;
 use std::process::Abort;
 
 /// The first sample with its roots 0 and every list but the form's empty.
-const BARE: &str = "100 b = 0;101 r = 0;106 surge0 = [];107 surge1 = [];108 surge2 = [];109 sway0 = [];110 sway1 = [];111 sway2 = [];112 out_surge0 = [];113 out_surge1 = [];114 out_sway0 = [];115 out_sway1 = [];116 span0 = [];117 span1 = [];118 span2 = []";
+const BARE: &str =
+    "100 b = 0;101 r = 0;106 surge0 = [];107 surge1 = [];108 surge2 = [];109 sway0 = [];110 sway1 = [];111 sway2 = [];112 out_surge0 = [];113 out_surge1 = [];114 out_sway0 = [];115 out_sway1 = [];116 span0 = [];117 span1 = [];118 span2 = []";
 
 fn plant(rt: &impl Abort, alloc: Global, lines: &[&str], edits: &str) -> Plant {
     edited(alloc, lines, edits).expect(rt, "a plant")
@@ -35,10 +36,28 @@ fn roots_and_lists_of_a_bare_form(rt: HostRuntime) {
     assert!(rt; prints(&made, 2, "b = 1162558252\n"));
     assert!(rt; prints(&made, 3, "r = 27130\n"));
     assert!(rt; prints(&made, 4, "g = [160000, 160000]\n"));
-    assert!(rt; prints(&made, 5, "p = [158, -53248, -480, 354418688, -2129920, 76800]\n"));
+    assert!(rt;
+        prints(
+            &made,
+            5,
+            "p = [158, -53248, -480, 354418688, -2129920, 76800]\n"
+        )
+    );
     assert!(rt; prints(&made, 7, "form = [[8, -1, 6656, -40], [100, 1, 0, -8]]\n"));
-    assert!(rt; prints(&made, 8, "surge0 = [[983, 134217728, 6815069217, -888772575], [284, 0, 137438953472, -623834793]]\n"));
-    assert!(rt; prints(&made, 20, "span2 = [[790, 2097152, -709973299, -6400000], [401, 0, 4294967296, -29402596]]\n"));
+    assert!(rt;
+        prints(
+            &made,
+            8,
+            "surge0 = [[983, 134217728, 6815069217, -888772575], [284, 0, 137438953472, -623834793]]\n"
+        )
+    );
+    assert!(rt;
+        prints(
+            &made,
+            20,
+            "span2 = [[790, 2097152, -709973299, -6400000], [401, 0, 4294967296, -29402596]]\n"
+        )
+    );
     assert!(rt; prints(&made, 21, ""));
     assert!(rt; prints(&plant.cert, 8, "surge0 = []\n"));
     assert!(rt; accept(&plant.gains, &plant.yaw, &made).is_ok());
@@ -48,7 +67,10 @@ fn roots_and_lists_of_a_bare_form(rt: HostRuntime) {
 fn a_rate_of_one_is_made_and_refused(rt: HostRuntime) {
     let plant = plant(&rt, rt.alloc(), S1, "99 rho = 1073741824");
     let made = made(&rt, &plant);
-    assert_eq!(rt; accept(&plant.gains, &plant.yaw, &made).err(), Some(CertFault::Rate));
+    assert_eq!(rt;
+        accept(&plant.gains, &plant.yaw, &made).err(),
+        Some(CertFault::Rate)
+    );
 }
 
 /// A number out of range is refused by its key.

@@ -2,8 +2,7 @@ use Rattle.std.proofs.Common.{◌≡◌, ◌+◌, ◌*◌, ◌≤◌, ◌++◌, 
 use Rattle.std.specs.Fmt.{signed_decimal}
 use Rattle.std.specs.List.{flat_map}
 use Rattle.arrayvec.specs.ArrayVec.{array_vec_len}
-use Rattle.dp_plant.specs.PlantFile.{square_row}
-use Rattle.dp_squares.specs.Text.{later, numbers_text}
+use Rattle.dp_squares.specs.Text.{later}
 use Rattle.dp_squares.proofs.arrays.append_later_wide.Given as goal
 
 abbrev pub invariant-loop-number : goal.invariant-loop-number
