@@ -1,0 +1,4 @@
+pub mod LeastRoots
+pub mod RowLines
+pub mod SameLists
+pub mod RangeRefusals
