@@ -15,8 +15,14 @@ mod ahead;
 mod guide;
 pub mod laws;
 mod motion;
+mod move_line;
+mod moves;
+mod moves_draft;
+mod moves_fault;
 mod stopping;
 mod velocity;
 
 pub use guide::Guide;
 pub use motion::{GuideLimits, Motion, Velocity};
+pub use moves::{Move, Moves};
+pub use moves_fault::{MovesFault, MovesKind};
