@@ -6,3 +6,4 @@ pub mod Motions
 pub mod MovesPhrases
 pub mod MovesHearing
 pub mod MovesReading
+pub mod Taking

@@ -14,15 +14,21 @@
 mod ahead;
 mod guide;
 pub mod laws;
+mod limits;
+mod line;
 mod motion;
 mod move_line;
 mod moves;
 mod moves_draft;
 mod moves_fault;
+mod passage;
 mod stopping;
 mod velocity;
 
 pub use guide::Guide;
+pub use limits::limits_of;
+pub use line::append_cycle;
 pub use motion::{GuideLimits, Motion, Velocity};
 pub use moves::{Move, Moves};
 pub use moves_fault::{MovesFault, MovesKind};
+pub use passage::Passage;
