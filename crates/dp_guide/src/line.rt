@@ -46,7 +46,12 @@ fn append_demand(into: &mut ArrayVec<u8, LINE>, demand: &[i64; 3])
     ensures len { array_vec_len into.new ≤ array_vec_len into.old + 70 }
 {
     append(into, b" demand");
-    append_three(into, entry_of(demand, 0), entry_of(demand, 1), entry_of(demand, 2));
+    append_three(
+        into,
+        entry_of(demand, 0),
+        entry_of(demand, 1),
+        entry_of(demand, 2),
+    );
 }
 
 /// Appends three numbers, each after a space.

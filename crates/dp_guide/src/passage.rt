@@ -1,5 +1,5 @@
 //! The setpoints of a list of moves, cycle by cycle.
-ghost use Rattle.std.specs.Prelude.{◌≡◌, ◌<◌, ◌≤◌, ◌^◌, drop, length};
+ghost use Rattle.std.specs.Prelude.{◌≡◌, ◌<◌, ◌≤◌, ◌+◌, ◌^◌, drop, length};
 ghost use Rattle.dp_plant.specs.{IsSetpointWithin};
 ghost use Rattle.dp_guide.specs.Motion.{AreLimits};
 ghost use Rattle.dp_guide.specs.Passage.{PassageState, move_taken, passage_begun, passage_next};
@@ -43,12 +43,20 @@ impl Passage {
         }
     }
 
+    /// How many cycles there were.
+    pub fn cycle(&self) -> u64
+        ensures { result ≡ self.now.cycle }
+    {
+        self.cycle
+    }
+
     /// The setpoint of the next cycle: where the guide rests and a move of this or an earlier cycle waits, the first such move becomes
     /// its target, and then it steps once.
     #[tactic(auto, unfolding(crate::specs::Passage::passage_next))]
     pub fn next(&mut self) -> Setpoint
         requires { self.old.cycle < 2 ^ 63 }
         ensures passage { self.new ≡ passage_next self.old }
+        ensures cycle { self.new.cycle ≡ self.old.cycle + 1 }
         ensures setpoint { result ≡ self.new.motion.here }
         ensures within { IsSetpointWithin result }
     {

@@ -1,0 +1,6 @@
+use Rattle.std.proofs.Common.{ap, ◌+◌}
+use Rattle.dp_guide.specs.Passage.{PassageState}
+use Rattle.dp_guide.proofs.passage.Passage.next.Goals as goal
+
+pub returns-clause-cycle : goal.returns-clause-cycle
+returns-clause-cycle c = ap (λ (p : PassageState). p.cycle + 1) c.self.view_is
