@@ -1,5 +1,5 @@
 -- The first move that waits, taken or not.
-use Rattle.std.proofs.Common.{◌≡◌, refl, ℕ, ◌+◌, ◌≤◌, ◌<◌, ◌&&◌, nat_le, true, false, List, ◌∷◌, drop, Some, arith}
+use Rattle.std.proofs.Common.{◌≡◌, refl, ℕ, ◌+◌, ◌≤◌, ◌<◌, ◌&&◌, nat_le, Bool, true, false, cond, List, [], ◌∷◌, drop, Some, arith}
 use Rattle.std.specs.Prelude.{slice_get}
 use Rattle.std.proofs.lemmas.Option.{slice_get_within, get_or_from_slice_get}
 use Rattle.std.proofs.lemmas.List.{drop_more}
@@ -34,3 +34,12 @@ busy motion new moves i cycle m e moving same now = rw (same, drop_one moves i m
 pub went : (motion new : Motion) (moves : List Move) (i cycle : ℕ) (m : Move) → slice_get moves i ≡ Some m → is_resting motion ≡ true → new ≡ gone motion m.to
     → m.cycle ≤ cycle → record { motion = new; waiting = drop (i + 1) moves; cycle = cycle } ≡ first_taken motion (drop i moves) cycle
 went motion new moves i cycle m e resting same now = rw (same, drop_one moves i m e, due m.cycle cycle now, resting) refl
+
+either_cycle : (b : Bool) (x y : PassageState) (n : ℕ) → x.cycle ≡ n → y.cycle ≡ n → (cond b x y).cycle ≡ n
+either_cycle true x y n e f = e
+either_cycle false x y n e f = f
+
+-- the cycle stays
+pub taken_cycle : (motion : Motion) (waiting : List Move) (cycle : ℕ) → (first_taken motion waiting cycle).cycle ≡ cycle
+taken_cycle motion [] cycle = refl
+taken_cycle motion (m ∷ later) cycle = either_cycle (nat_le m.cycle cycle && is_resting motion) _ _ cycle refl refl
