@@ -3,3 +3,7 @@ pub mod Courses
 pub mod Headings
 pub mod Rows
 pub mod Motions
+pub mod MovesPhrases
+pub mod MovesHearing
+pub mod MovesReading
+pub mod Taking

@@ -46,22 +46,23 @@ kept m v k north east heading =
     let n = falls m.target.at.north m.here.at.north v.north in
     let e = falls m.target.at.east m.here.at.east v.east in
     let h = heading_nears m.target.psi m.here.psi turn v.heading turn_is_positive turn_is_even heading.not_past_ahead heading.not_past_behind in
-    let psi = rest_range (m.here.psi +ℤ v.heading) turn turn_is_positive in
-    (record {
-      limits = k.limits;
-      here = record {
-        place = record {
-          north = place_between m.target.at.north m.here.at.north (entry m.limits.rate 0) (entry m.limits.accel 0) m.velocity.north v.north k.target.place.north k.here.place.north north;
-          east = place_between m.target.at.east m.here.at.east (entry m.limits.rate 1) (entry m.limits.accel 1) m.velocity.east v.east k.target.place.east k.here.place.east east;
+    let psi = rest_range (m.here.psi +ℤ v.heading) turn turn_is_positive in (
+      record {
+        limits = k.limits;
+        here = record {
+          place = record {
+            north = place_between m.target.at.north m.here.at.north (entry m.limits.rate 0) (entry m.limits.accel 0) m.velocity.north v.north k.target.place.north k.here.place.north north;
+            east = place_between m.target.at.east m.here.at.east (entry m.limits.rate 1) (entry m.limits.accel 1) m.velocity.east v.east k.target.place.east k.here.place.east east;
+          };
+          heading = record { low = psi.0; high = psi.1 };
         };
-        heading = record { low = psi.0; high = psi.1 };
-      };
-      target = k.target;
-      north = subst (IsOnCourse (entry m.limits.rate 0) (entry m.limits.accel 0) v.north) (sym n) north.on_course;
-      east = subst (IsOnCourse (entry m.limits.rate 1) (entry m.limits.accel 1) v.east) (sym e) east.on_course;
-      heading = subst (IsOnCourse (entry m.limits.rate 2) (entry m.limits.accel 2) v.heading) (sym h) heading.on_course;
-    },
-    record { north = north; east = east; heading = heading; north_left = n; east_left = e; heading_left = h })
+        target = k.target;
+        north = subst (IsOnCourse (entry m.limits.rate 0) (entry m.limits.accel 0) v.north) (sym n) north.on_course;
+        east = subst (IsOnCourse (entry m.limits.rate 1) (entry m.limits.accel 1) v.east) (sym e) east.on_course;
+        heading = subst (IsOnCourse (entry m.limits.rate 2) (entry m.limits.accel 2) v.heading) (sym h) heading.on_course;
+      },
+      record { north = north; east = east; heading = heading; north_left = n; east_left = e; heading_left = h },
+    )
 
 velocity_guided : (rate accel v d : ℤ) → IsLimit rate → IsLimit accel → IsOnCourse rate accel v d → IsGuided rate accel v d (velocity_of rate accel v d)
 velocity_guided rate accel v d r a o = guided rate accel v d (velocity_of rate accel v d) r.low a.low o (velocity_is_next rate accel v d r.low a.low o)
@@ -210,9 +211,9 @@ arrives m n k still north east heading =
     let kn = kept_by n m k in
     let t = target_stays n m in
     let here = same_setpoint (stepped_by n m).here (stepped_by n m).target
-        (no_way (stepped_by n m).target.at.north (stepped_by n m).here.at.north (jn n north).0)
-        (no_way (stepped_by n m).target.at.east (stepped_by n m).here.at.east (je n east).0)
-        (no_turn (stepped_by n m).target.psi (stepped_by n m).here.psi kn.target.heading.low kn.target.heading.high kn.here.heading.low kn.here.heading.high (jh n heading).0) in
+    (no_way (stepped_by n m).target.at.north (stepped_by n m).here.at.north (jn n north).0)
+    (no_way (stepped_by n m).target.at.east (stepped_by n m).here.at.east (je n east).0)
+    (no_turn (stepped_by n m).target.psi (stepped_by n m).here.psi kn.target.heading.low kn.target.heading.high kn.here.heading.low kn.here.heading.high (jh n heading).0) in
     (here ∙ t, rests jn je jh)
   where
     more : (rate accel way : ℤ) → Serves n rate accel way → IsLimit rate → IsLimit accel → Serves (suc n) rate accel way
@@ -224,10 +225,10 @@ arrives m n k still north east heading =
         → is_resting (stepped_by (suc n) m) ≡ true
     rests jn je jh = both_true (is_there (stepped_by (suc n) m)) (is_still (stepped_by (suc n) m).velocity)
         (three_true _ _ _
-            (zero_tests (left_north (stepped_by (suc n) m)) (jn (suc n) (more (entry m.limits.rate 0) (entry m.limits.accel 0) (left_north m) north k.limits.north_rate k.limits.north_accel)).0)
-            (zero_tests (left_east (stepped_by (suc n) m)) (je (suc n) (more (entry m.limits.rate 1) (entry m.limits.accel 1) (left_east m) east k.limits.east_rate k.limits.east_accel)).0)
-            (zero_tests (left_heading (stepped_by (suc n) m)) (jh (suc n) (more (entry m.limits.rate 2) (entry m.limits.accel 2) (left_heading m) heading k.limits.heading_rate k.limits.heading_accel)).0))
+        (zero_tests (left_north (stepped_by (suc n) m)) (jn (suc n) (more (entry m.limits.rate 0) (entry m.limits.accel 0) (left_north m) north k.limits.north_rate k.limits.north_accel)).0)
+        (zero_tests (left_east (stepped_by (suc n) m)) (je (suc n) (more (entry m.limits.rate 1) (entry m.limits.accel 1) (left_east m) east k.limits.east_rate k.limits.east_accel)).0)
+        (zero_tests (left_heading (stepped_by (suc n) m)) (jh (suc n) (more (entry m.limits.rate 2) (entry m.limits.accel 2) (left_heading m) heading k.limits.heading_rate k.limits.heading_accel)).0))
         (three_true _ _ _
-            (zero_tests (stepped_by (suc n) m).velocity.north (jn n north).1)
-            (zero_tests (stepped_by (suc n) m).velocity.east (je n east).1)
-            (zero_tests (stepped_by (suc n) m).velocity.heading (jh n heading).1))
+        (zero_tests (stepped_by (suc n) m).velocity.north (jn n north).1)
+        (zero_tests (stepped_by (suc n) m).velocity.east (je n east).1)
+        (zero_tests (stepped_by (suc n) m).velocity.heading (jh n heading).1))

@@ -210,7 +210,7 @@ fn is_still(v: Velocity) -> bool
 }
 
 /// The number of a coordinate.
-fn entry_of(numbers: &[i64; 3], axis: usize) -> i64
+pub(crate) fn entry_of(numbers: &[i64; 3], axis: usize) -> i64
     requires { axis < 3 }
     ensures { result ≡ entry numbers.now axis }
 {

@@ -10,6 +10,7 @@ use dp_plant::Setpoint;
 use std::marker::Model;
 
 /// A setpoint that moves to its target with limited rates and accelerations.
+#[derive(Drop)]
 pub struct Guide {
     motion: Motion,
 }
