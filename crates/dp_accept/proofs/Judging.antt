@@ -110,6 +110,19 @@ module _ (judge : Plant → Option GainsRefusal) where
       pub good_plant : AreAccepted p → judge p ≡ None → GivesPlant judge text (Ok p)
       good_plant none is = by_fault None (judged none None is)
 
+  -- and where the files are told
+  module _ (name : List ℕ) (p : Plant) (none : AreAccepted p) where
+    pub file_good : (files : Option Files) (q : Plant) → q ≡ p → IfSome files (λ told. data_in (text_named told name) ≡ Ok (plant_view p)) → judge p ≡ None
+        → IfSome files (λ told. GivesPlant judge (text_named told name) (Ok q))
+    file_good None q same found is = tt
+    file_good (Some told) q same found is =
+        subst (λ (r : Plant). GivesPlant judge (text_named told name) (Ok r)) (sym same) (good_plant (text_named told name) p found none is)
+
+    pub file_bad : (files : Option Files) (why : GainsRefusal) → IfSome files (λ told. data_in (text_named told name) ≡ Ok (plant_view p)) → judge p ≡ Some why
+        → IfSome files (λ told. GivesPlant judge (text_named told name) (Err (trouble.Gains why)))
+    file_bad None why found is = tt
+    file_bad (Some told) why found is = bad_gains (text_named told name) p found none why is
+
 -- ---- a file that was read
 
 data_of_text : (t : Option (List ℕ)) (part : Prefix) (d : Result PlantData PlantTrouble) → IsSomeAnd t (λ text. part ≡ prefix_of plant_limit text) → data_within part ≡ d → data_in t ≡ d

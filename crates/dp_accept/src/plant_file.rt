@@ -65,7 +65,8 @@ pub fn read_plant<F: Shelf>(
 
     // A refusal that the file gives is the file's, whatever judges the gains.
     ensures err { IfErr result (λ why. IsOfFile why → IfSome (F.files shelf.old) (λ files.
-        (judge : PlantValue → Option Refusal) → GivesPlant judge (text_named files name.now) (Err why))) }
+        (judge : PlantValue → Option Refusal)
+        → GivesPlant judge (text_named files name.now) (Err why))) }
 
     // A fault of reading is counted.
     ensures failed { IsErrOf result PlantTrouble.Read
@@ -98,7 +99,8 @@ fn read_part<F: Shelf>(alloc: Global, shelf: &mut F, name: &str) -> Result<FileP
 #[tactic(auto, unfolding(crate::specs::PlantFiles::data_within))]
 fn plant_within(alloc: Global, part: &FilePart) -> Result<Plant, PlantTrouble>
     ensures ok { IfOk result (λ p. data_within (prefix_read part.now) ≡ Ok (plant_view p)) }
-    ensures err { IfErr result (λ why. IsOfFile why → data_within (prefix_read part.now) ≡ Err why) }
+    ensures err { IfErr result (λ why. IsOfFile why
+        → data_within (prefix_read part.now) ≡ Err why) }
     ensures read { IsErrOf result PlantTrouble.Read → ⊥ }
 {
     if part.is_cut {

@@ -1,5 +1,5 @@
 -- What a replay comes to: its plant and its script were read, and its record was played.
-use Rattle.std.proofs.Common.{true, ◌≡◌, ◌≢◌, ◌≤◌, ℕ, Bool, List, [], ◌∷◌, Option, Some, Ok, Err, Result, IfSome, inl, inr, refl, sym, ap, ◌∙◌, subst, arith}
+use Rattle.std.proofs.Common.{◌≡◌, ◌≢◌, ◌≤◌, ℕ, Bool, List, [], ◌∷◌, Option, Some, Ok, Err, Result, IfSome, inl, inr, refl, sym, ap, ◌∙◌, subst, arith}
 use Rattle.dp_accept.specs.{GivesPlant, by_own_certificate}
 use Rattle.dp_plant.specs.declared.plant.Plant.{Plant}
 use Rattle.dp_script.specs.declared.timed_act.TimedAct.{TimedAct}
@@ -16,7 +16,6 @@ use Rattle.dp_app.specs.declared.status.Status.{Status}
 use Rattle.dp_app.specs.declared.status.Status.TheVariants as status
 use Rattle.dp_app.specs.Causes.{HasPassed, ReadFailed, ReadsAmong, RecordFailed, RoseAt}
 use Rattle.dp_app.specs.Outcome.{Asks, Task, outcome_of, pieces_in, task_by, with_record, with_script}
-use Rattle.dp_app.specs.Playing.{HasPlayed}
 use Rattle.dp_app.specs.Runs.{Runs}
 use Rattle.dp_app.specs.Scripts.{IsOfScript, script_in}
 use Rattle.dp_app.specs.Status.{IsOfInputs}
@@ -78,7 +77,7 @@ module _ {S T : Type 0} (texts : S → Option Files) (names : S → List ℕ →
 
     -- ---- it is played
 
-    module _ (x : Player) (found : IfSome (texts first) (λ told. script_in (text_named told script_name) ≡ Ok x.script)) (played : HasPlayed p x.script true x []) where
+    module _ (x : Player) (found : IfSome (texts first) (λ told. script_in (text_named told script_name) ≡ Ok x.script)) (plant_is : x.plant ≡ p) where
       abbrev asked : Files → Result Task Fault
       asked told = task_of_player x record_name told
 
@@ -94,7 +93,7 @@ module _ {S T : Type 0} (texts : S → Option Files) (names : S → List ℕ →
       asks_played told h is = (
         Ok p,
         h,
-        ap (λ (q : Plant). with_record q x.script (text_named told record_name)) played.plant
+        ap (λ (q : Plant). with_record q x.script (text_named told record_name)) plant_is
             ∙ sym (ap (λ (r : Result (List TimedAct) ScriptTrouble). with_script p r (text_named told record_name)) is),
       )
 
