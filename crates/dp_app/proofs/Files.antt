@@ -50,19 +50,19 @@ plant_no_usage plant.Long e = cc
 plant_no_usage (plant.Plant why) e = cc
 plant_no_usage (plant.Gains why) e = cc
 
-script_read : (why : ScriptTrouble) (f : File) → script_fault why ≡ Read f → (why ≡ script.Read) × (file.Script ≡ f)
+pub script_read : (why : ScriptTrouble) (f : File) → script_fault why ≡ Read f → (why ≡ script.Read) × (file.Script ≡ f)
 script_read script.Read f e = (refl, same_read file.Script f e)
 script_read script.Memory f e = absurd cc
 script_read script.Long f e = absurd cc
 script_read (script.Line line kind) f e = absurd cc
 
-script_given : (why : ScriptTrouble) → IsOfInputs (fault_status (script_fault why)) → IsOfScript why
+pub script_given : (why : ScriptTrouble) → IsOfInputs (fault_status (script_fault why)) → IsOfScript why
 script_given script.Read is = is
 script_given script.Memory is = is
 script_given script.Long is = tt
 script_given (script.Line line kind) is = tt
 
-script_no_usage : (why : ScriptTrouble) → fault_status (script_fault why) ≡ status.Usage → ⊥
+pub script_no_usage : (why : ScriptTrouble) → fault_status (script_fault why) ≡ status.Usage → ⊥
 script_no_usage script.Read e = cc
 script_no_usage script.Memory e = cc
 script_no_usage script.Long e = cc

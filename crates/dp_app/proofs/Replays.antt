@@ -16,7 +16,7 @@ use Rattle.dp_app.specs.declared.status.Status.{Status}
 use Rattle.dp_app.specs.declared.status.Status.TheVariants as status
 use Rattle.dp_app.specs.Causes.{HasPassed, ReadFailed, ReadsAmong, RecordFailed, RoseAt}
 use Rattle.dp_app.specs.Outcome.{Asks, Task, outcome_of, pieces_in, task_by, with_record, with_script}
-use Rattle.dp_app.specs.Runs.{Runs}
+use Rattle.dp_app.specs.Running.{Runs}
 use Rattle.dp_app.specs.Scripts.{IsOfScript, script_in}
 use Rattle.dp_app.specs.Status.{IsOfInputs}
 use Rattle.dp_app.specs.Streaming.{task_of_player}

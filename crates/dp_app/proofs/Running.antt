@@ -11,7 +11,7 @@ use Rattle.dp_app.specs.Causes.{AnyRose, ReadFailed, ReadsAmong}
 use Rattle.dp_app.specs.Complete.{AsksNoFile, IsUnrefused, IsWholeOrMemory}
 use Rattle.dp_app.specs.FaultLines.{fault_line, fault_status}
 use Rattle.dp_app.specs.Outcome.{Asks, Task, last_status, outcome_of, pieces_in}
-use Rattle.dp_app.specs.Runs.{Runs}
+use Rattle.dp_app.specs.Running.{Runs}
 use Rattle.dp_app.specs.Status.{IsOfInputs}
 use Rattle.dp_app.specs.Words.{Command, FileNamed, files_read}
 use Rattle.dp_app.specs.Written.{HasWritten, LineEnds, NoReadFailed}
@@ -144,7 +144,7 @@ module _ {S T : Type 0} (texts : S → Option Files) (names : S → List ℕ →
     pub runs_complete : (AnyRose (files_read c) (numbers old) (numbers new) → ⊥) → (Rose (troubles before) (troubles after) → ⊥) → IsOfInputs s ⊎ (s ≡ status.Memory)
     runs_complete quiet still =
         status_known s
-        (λ e. let r = run.read e in quiet (any_rose (texts old) (numbers old) (numbers new) (files_read c) r.0 r.1.0))
+        (λ e. let r = run.read e in quiet (any_rose (texts old) (numbers old) (numbers new) (files_read c) r.0 r.1))
         (λ e. still (run.write e))
 
     pub runs_whole : IfSome (texts old) (λ told. (x : Result Task Fault) → Asks c told x → IsUnrefused x → (AnyRose (files_read c) (numbers old) (numbers new) → ⊥)

@@ -27,7 +27,7 @@ const CASE: usize = 2048;
 /// The numbers C and R of a thruster say that replacing one position reference for any number of cycles, in which the other two stay
 /// within s nanometres of each other, moves 2^20 times its force, in newtons, by at most C * s + R.
 pub fn check<F: Shelf, K: Sink>(alloc: Global, name: &str, shelf: &mut F, out: &mut K) -> Status
-    ensures runs { Runs F.files F.apart F.faults K.taken K.faults (Some (check name.now))
+    ensures { Runs F.files F.apart F.faults K.taken K.faults (Some (check name.now))
         shelf.old shelf.new out.old out.new result }
 {
     match accept_plant(alloc, shelf, name) {

@@ -6,8 +6,8 @@ use Rattle.dp_app.proofs.Files.{plant_refused, reads_first, task_told}
 use Rattle.dp_app.proofs.Running.{refused_runs, told_runs}
 use Rattle.dp_app.proofs.check.check.Goals as goal
 
-pub returns-in-Ok-clause-runs : goal.returns-in-Ok-clause-runs
-returns-in-Ok-clause-runs g c =
+pub returns-in-Ok : goal.returns-in-Ok
+returns-in-Ok g c =
     let S = g.F.Shelf in
     let K = g.K.Sink in
     let name = c.args.name.now in
@@ -19,8 +19,8 @@ returns-in-Ok-clause-runs g c =
     (reads_first S.files S.apart S.faults (plant_file name) [] old new c.in-Ok.ensures.reads))
     c.write_check.ensures.answers c.write_check.ensures.written c.write_check.ensures.write
 
-pub returns-in-Err-clause-runs : goal.returns-in-Err-clause-runs
-returns-in-Err-clause-runs g c =
+pub returns-in-Err : goal.returns-in-Err
+returns-in-Err g c =
     let S = g.F.Shelf in
     let K = g.K.Sink in
     let name = c.args.name.now in
