@@ -48,6 +48,6 @@ module _ (p : Plant) where
       ∙ ap (λ (l : List RawCase). codes "accepted\n" ++ flat_map f l) (take-append-drop n cs) in
       subst (λ (l : List ℕ). AppendsCut a c l) whole (cut_before a c (text_so_far p n) (flat_map f (drop n cs)) cut)
 
-  pub whole_check : (count : ℕ) → count ≡ length p.cases.items → cases_text p ++ end_line count ≡ check_text p
+  pub whole_check : (last : List ℕ) → last ≡ end_line (length p.cases.items) → cases_text p ++ last ≡ check_text p
   unfolding check_text
-  whole_check count e = ap (λ (n : ℕ). cases_text p ++ end_line n) e
+  whole_check last e = ap (λ (l : List ℕ). cases_text p ++ l) e

@@ -1,14 +1,14 @@
 -- Why a fault of reading may be answered: the files that a command reads are listed in the order in
 -- which it reads them.
-use Rattle.std.specs.Prelude.{◌≡◌, ◌≢◌, ◌⊎◌, ℕ, Bool, List, [], ◌∷◌, Option, None, IfSome, IsSome, IsSomeAnd, IsTrue}
-use Rattle.dp_shell.specs.Faults.{Rose}
-use Rattle.dp_shell.specs.Texts.{Files, text_named}
+use Rattle.std.specs.Prelude.{◌≡◌, ◌≢◌, ◌⊎◌, ℕ, Bool, List, [], ◌∷◌, Option, Ok, IfSome, IsSome, IsTrue}
+use Rattle.dp_accept.specs.{GivesPlant, by_own_certificate}
 use Rattle.dp_plant.specs.declared.plant.Plant.{Plant as PlantValue}
+use Rattle.dp_script.specs.declared.timed_act.TimedAct.{TimedAct}
+use Rattle.dp_shell.specs.Faults.{NoneFalls, Rose}
+use Rattle.dp_shell.specs.Texts.{Files, text_named}
 use Rattle.dp_app.specs.declared.fault.File.{File}
-use Rattle.dp_app.specs.declared.fault.File.TheVariants.{Plant, Script, Record}
-use Rattle.dp_app.specs.Files.{prefix_of, script_limit}
-use Rattle.dp_app.specs.Outcome.{script_fault_of}
-use Rattle.dp_app.specs.PlantFiles.{IsPlantOf}
+use Rattle.dp_app.specs.declared.fault.File.TheVariants.{Plant, Script, Record, First, Second, Moves}
+use Rattle.dp_app.specs.Scripts.{script_in}
 use Rattle.dp_app.specs.Words.{FileNamed}
 
 -- the number of a name's faults rose
@@ -18,9 +18,12 @@ RoseAt before now name = Rose (before name) (now name)
 -- a file is there and has no fault that is judged before the next one is read; a record is judged
 -- as it is played
 abbrev pub Passes : File → Option (List ℕ) → Type 0
-Passes Plant text = (p : PlantValue) × IsPlantOf text p
-Passes Script text = IsSomeAnd text (λ t. script_fault_of (prefix_of script_limit t) ≡ None)
+Passes Plant text = (p : PlantValue) × GivesPlant by_own_certificate text (Ok p)
+Passes Script text = (script : List TimedAct) × (script_in text ≡ Ok script)
 Passes Record text = IsSome text
+Passes First text = IsSome text
+Passes Second text = IsSome text
+Passes Moves text = IsSome text
 
 abbrev pub HasPassed : Files → FileNamed → Type 0
 HasPassed told f = Passes f.file (text_named told f.name)
@@ -50,3 +53,12 @@ IsNoneOf (f ∷ fs) name = (name ≢ f.name) × IsNoneOf fs name
 abbrev pub OthersKeep : (List ℕ → Bool) → List FileNamed → (List ℕ → ℕ) → (List ℕ → ℕ) → Type 0
 OthersKeep apart fs before now =
     (other : List ℕ) → IsTrue (apart other) → IsNoneOf fs other → now other ≡ before other
+
+-- reads of these files leave texts and names, no number falls, and each other name that is counted
+-- apart keeps its own
+pub record ReadsAmong {S : Type 0} (texts : S → Option Files) (names : S → List ℕ → Bool)
+    (numbers : S → List ℕ → ℕ) (fs : List FileNamed) (old new : S) : Type 0 where
+  pub files : texts new ≡ texts old
+  pub apart : names new ≡ names old
+  pub others : OthersKeep (names old) fs (numbers old) (numbers new)
+  pub none_falls : NoneFalls (numbers old) (numbers new)

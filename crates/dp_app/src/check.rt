@@ -1,40 +1,52 @@
 //! A check of a plant: how far a bad position reference can move each of its thrusters, case by case.
-ghost use Rattle.std.specs.Prelude.{◌≡◌, ◌≢◌, ◌++◌, ◌+◌, ◌≤◌, [], All, OnErr, OnOk, length};
+ghost use Rattle.std.specs.Prelude.{◌≡◌, ◌⊎◌, ◌++◌, ◌+◌, ◌≤◌, [], All, OnErr, OnOk, Some, length};
 ghost use Rattle.std.specs.Io.KnownBytes.{Appends};
 ghost use Rattle.arrayvec.specs.ArrayVec.{array_vec_len};
 ghost use Rattle.dp_cert.specs.{IsShareRow};
 ghost use Rattle.dp_machine.specs.{IsAcceptedPlant};
 ghost use Rattle.dp_shell.specs.{AppendsCut, HasWriteCause, Rose};
-ghost use Rattle.dp_app.specs.{HasWritten, IsAnnounced, IsOfInputs, NoReadFailed, check_text};
+ghost use Rattle.dp_app.specs.{HasWritten, NoReadFailed, Runs, check, check_text};
 ghost use Rattle.dp_app.specs.Check.{bound_line, bound_lines, case_text, cases_text};
 
 use crate::Status;
-use crate::ending::{finish, stop};
-use crate::plant_file::AcceptedPlant;
+use crate::ending::{announce, end_line, stop, write_last};
+use crate::fault::Fault;
 use arrayvec::ArrayVec;
+use dp_accept::{AcceptedPlant, accept_plant};
 use dp_cert::Accepted;
 use dp_plant::RawCase;
-use dp_shell::{Sink, Trouble, write_all};
+use dp_shell::{Shelf, Sink, Trouble, write_all};
 use dp_text::{append, append_decimal, append_wide};
+use std::alloc::Global;
 
 /// Room for the text of a case.
 const CASE: usize = 2048;
 
-/// Writes `accepted`, for each case of a plant the two numbers of each thruster, and how many cases there are.
+/// Reads and judges a plant, and writes `accepted`, for each of its cases the two numbers of each thruster, and how many cases there are.
 ///
 /// The numbers C and R of a thruster say that replacing one position reference for any number of cycles, in which the other two stay
 /// within s nanometres of each other, moves 2^20 times its force, in newtons, by at most C * s + R.
-pub fn check<K: Sink>(plant: &AcceptedPlant, out: &mut K) -> Status
+pub fn check<F: Shelf, K: Sink>(alloc: Global, name: &str, shelf: &mut F, out: &mut K) -> Status
+    ensures { Runs F.files F.apart F.faults K.taken K.faults (Some (check name.now))
+        shelf.old shelf.new out.old out.new result }
+{
+    match accept_plant(alloc, shelf, name) {
+        Ok(plant) => write_check(&plant, out),
+        Err(why) => announce(out, Fault::of_plant(why)),
+    }
+}
+
+/// Writes the text of an accepted plant.
+fn write_check<K: Sink>(plant: &AcceptedPlant, out: &mut K) -> Status
     requires { IsAcceptedPlant plant.now.plant plant.now.accepted }
-    ensures status { IsOfInputs result → result ≡ Status.Ok }
+    ensures answers { (result ≡ Status.Ok) ⊎ (result ≡ Status.WriteFault)
+        ⊎ (result ≡ Status.Memory) }
     ensures written { HasWritten NoReadFailed [] (check_text plant.now.plant) result
         (K.taken out.old) (K.taken out.new) }
-    ensures announced { IsAnnounced result (K.taken out.old) (K.taken out.new) }
     ensures write { result ≡ Status.WriteFault → Rose (K.faults out.old) (K.faults out.new) }
-    ensures read { (result ≢ Status.ReadFault) × (result ≢ Status.Usage) }
 {
     match write_cases(plant, out) {
-        Ok(()) => finish(out, None, plant.plant.cases.len() as u64),
+        Ok(()) => write_last(out, &end_line(plant.plant.cases.len() as u64)),
         Err(trouble) => stop(out, trouble),
     }
 }

@@ -5,12 +5,13 @@ ghost use Rattle.dp_shell.specs.{AppendsCut, Rose};
 ghost use Rattle.dp_app.specs.{HasWritten, IsAnnounced, IsOfInputs, IsOfRecord, LineEnds, NoReadFailed, end_line, fault_line, fault_status, last_line, last_status};
 
 use crate::Status;
-use crate::fault::{Fault, LINE};
+use crate::fault::Fault;
 use arrayvec::ArrayVec;
+use dp_accept::LINE;
 use dp_shell::{Sink, Trouble, write_all};
 use dp_text::{append, append_decimal};
 
-/// Writes the last line, the number of cycles or cases or the record's fault, and answers the status.
+/// Writes the last line, the number of cycles or the record's fault, and answers the status.
 pub fn finish<K: Sink>(out: &mut K, fault: Option<Fault>, count: u64) -> Status
     requires { IsOfRecord fault }
     ensures status { IsOfInputs result → result ≡ last_status fault }
@@ -75,8 +76,9 @@ pub fn announce<K: Sink>(out: &mut K, fault: Fault) -> Status
     }
 }
 
+/// The last line of what doesn't end with a fault: how many cycles there were, or cases.
 #[tactic(auto, unfolding(crate::specs::Endings::end_line))]
-fn end_line(count: u64) -> ArrayVec<u8, LINE>
+pub fn end_line(count: u64) -> ArrayVec<u8, LINE>
     ensures { result.items ≡ end_line count }
 {
     let mut line = ArrayVec::new();

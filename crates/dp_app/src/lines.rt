@@ -3,8 +3,9 @@ ghost use Rattle.std.specs.Prelude.{◌≡◌, ◌++◌, ◌≤◌, length, code
 ghost use Rattle.std.specs.Fmt.{decimal};
 ghost use Rattle.dp_app.specs.FaultLines.{file_line, file_word, kind_word, line_kind_word, named_line};
 
-use crate::fault::{File, LINE};
+use crate::fault::File;
 use arrayvec::ArrayVec;
+use dp_accept::LINE;
 use dp_frame::LineFault;
 use dp_script::ScriptKind;
 use dp_text::{append, append_decimal};
@@ -70,6 +71,9 @@ fn file_word(file: File) -> &'static [u8]
         File::Plant => b"plant",
         File::Script => b"script",
         File::Record => b"record",
+        File::First => b"first",
+        File::Second => b"second",
+        File::Moves => b"moves",
     }
 }
 

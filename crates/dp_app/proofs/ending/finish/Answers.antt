@@ -1,7 +1,8 @@
 use Rattle.std.proofs.Common.{◌≡◌, [], ◌++◌, ℕ, List, Option, subst, sym}
 use Rattle.std.specs.Io.KnownBytes.{Appends}
 use Rattle.dp_app.specs.declared.fault.Fault.{Fault}
-use Rattle.dp_app.specs.Outcome.{IsOfInputs, IsOfRecord, last_line, last_status}
+use Rattle.dp_app.specs.Outcome.{IsOfRecord, last_line, last_status}
+use Rattle.dp_app.specs.Status.{IsOfInputs}
 use Rattle.dp_app.specs.Written.{HasWritten, NoReadFailed}
 use Rattle.dp_app.proofs.Endings.{end_announced, end_read, end_status, line_announced, line_read, line_status, line_written}
 use Rattle.dp_app.proofs.ending.finish.Goals as goal
