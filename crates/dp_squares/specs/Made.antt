@@ -38,17 +38,24 @@ five_spans g c =
     ∷ list_for g c (Span 4)
     ∷ []
 
--- the file's form, with the squares that show it, and every other list made
-abbrev pub made_lists : {n : ℕ} → Gains → Cert → List (Squares n) → Lists n → Lists n
-made_lists g c spans l = record {
+-- the file's form, with the squares that show it, and these lists
+abbrev pub with_lists : {n : ℕ} → Lists n → List (List (Squares n)) → List (List (Squares n))
+    → List (Squares n) → Lists n
+with_lists l vertex output spans = record {
   p = l.p;
   span = l.span;
   form = l.form;
-  vertex = vertex_lists g c 0 ∷ vertex_lists g c 1 ∷ [];
-  output = output_lists g c 0 ∷ output_lists g c 1 ∷ [];
+  vertex = vertex;
+  output = output;
   spans = spans;
   symmetric = l.symmetric;
 }
+
+-- every list but the form's made
+abbrev pub made_lists : {n : ℕ} → Gains → Cert → List (Squares n) → Lists n → Lists n
+made_lists g c spans l =
+    with_lists l (vertex_lists g c 0 ∷ vertex_lists g c 1 ∷ [])
+    (output_lists g c 0 ∷ output_lists g c 1 ∷ []) spans
 
 abbrev pub made_parts : Gains → Cert → Parts → Parts
 made_parts g c (Three l) = Three (made_lists g c (three_spans g c) l)

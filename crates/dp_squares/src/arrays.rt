@@ -1,5 +1,5 @@
 //! Arrays of the plant file as text.
-ghost use Rattle.std.specs.Prelude.{◌≡◌, ◌≤◌, ◌<◌, ◌+◌, ◌*◌, ◌++◌, length};
+ghost use Rattle.std.specs.Prelude.{◌≡◌, ◌≤◌, ◌<◌, ◌+◌, ◌*◌, ◌++◌, codes, length};
 ghost use Rattle.std.specs.Fmt.{signed_decimal};
 ghost use Rattle.std.specs.List.{flat_map};
 ghost use Rattle.arrayvec.specs.ArrayVec.{array_vec_len};
@@ -37,7 +37,7 @@ fn append_later(into: &mut ArrayVec<u8, LINE>, numbers: &[i64])
     ensures len { array_vec_len into.new ≤ array_vec_len into.old + 22 * length numbers.now }
 {
     for number in numbers {
-        append(into, b", ");
+        append_separator(into);
         append_number(into, *number);
     }
 }
@@ -65,7 +65,7 @@ fn append_later_wide(into: &mut ArrayVec<u8, LINE>, numbers: &[i128])
     ensures len { array_vec_len into.new ≤ array_vec_len into.old + 42 * length numbers.now }
 {
     for number in numbers {
-        append(into, b", ");
+        append_separator(into);
         append_wide(into, *number);
     }
 }
@@ -96,7 +96,7 @@ fn append_later_squares<const N: usize>(into: &mut ArrayVec<u8, LINE>, squares: 
     ensures len { array_vec_len into.new ≤ array_vec_len into.old + 136 * length squares.now }
 {
     for square in squares {
-        append(into, b", ");
+        append_separator(into);
         append_square(into, square);
     }
 }
@@ -111,4 +111,12 @@ fn append_square<const N: usize>(into: &mut ArrayVec<u8, LINE>, square: &Square<
     append_number(into, square.d);
     append_later(into, &square.l);
     append(into, b"]");
+}
+
+fn append_separator(into: &mut ArrayVec<u8, LINE>)
+    requires { array_vec_len into.old + 2 ≤ LINE }
+    ensures text { into.new.items ≡ into.old.items ++ codes ", " }
+    ensures len { array_vec_len into.new ≤ array_vec_len into.old + 2 }
+{
+    append(into, b", ");
 }

@@ -5,7 +5,7 @@ ghost use Rattle.dp_cert.specs.Judged.{IsWhichOf};
 ghost use Rattle.dp_plant.specs.{IsLawGains, IsObserverGains};
 ghost use Rattle.dp_plant.specs.declared.cert.Parts.TheVariants.{Three, Five};
 ghost use Rattle.dp_squares.specs.{list_for, made_cert, made_parts};
-ghost use Rattle.dp_squares.specs.Made.{five_spans, made_lists, output_lists, three_spans, vertex_lists};
+ghost use Rattle.dp_squares.specs.Made.{five_spans, made_lists, output_lists, three_spans, vertex_lists, with_lists};
 
 use crate::roots::made_root;
 use arrayvec::ArrayVec;
@@ -57,14 +57,9 @@ fn three_lists(g: &Gains, c: &Cert, l: &Lists<3>) -> Lists<3>
     requires size { state_count c.now.parts ≡ 3 }
     ensures { result ≡ made_lists g.now c.now (three_spans g.now c.now) l.now }
 {
-    Lists {
-        p: l.p,
-        span: l.span,
-        form: copied(&l.form),
-        vertex: three_vertices(g, c),
-        output: three_outputs(g, c),
-        spans: three_spans(g, c),
-    }
+    let vertices = three_vertices(g, c);
+    let outputs = three_outputs(g, c);
+    with_lists(l, vertices, outputs, three_spans(g, c))
 }
 
 fn three_vertices(g: &Gains, c: &Cert) -> [[Squares<3>; 3]; 2]
@@ -162,14 +157,9 @@ fn five_lists(g: &Gains, c: &Cert, l: &Lists<5>) -> Lists<5>
     requires size { state_count c.now.parts ≡ 5 }
     ensures { result ≡ made_lists g.now c.now (five_spans g.now c.now) l.now }
 {
-    Lists {
-        p: l.p,
-        span: l.span,
-        form: copied(&l.form),
-        vertex: five_vertices(g, c),
-        output: five_outputs(g, c),
-        spans: five_spans(g, c),
-    }
+    let vertices = five_vertices(g, c);
+    let outputs = five_outputs(g, c);
+    with_lists(l, vertices, outputs, five_spans(g, c))
 }
 
 fn five_vertices(g: &Gains, c: &Cert) -> [[Squares<5>; 3]; 2]
@@ -256,6 +246,25 @@ fn five_list(g: &Gains, c: &Cert, which: Which) -> Squares<5>
     ensures { result ≡ list_for g.now c.now which }
 {
     made(&matrix5(g, c, which))
+}
+
+/// A form with the squares that show it, and these lists.
+fn with_lists<const N: usize>(
+    l: &Lists<N>,
+    vertex: [[Squares<N>; 3]; 2],
+    output: [[Squares<N>; 2]; 2],
+    spans: [Squares<N>; N],
+) -> Lists<N>
+    ensures { result ≡ with_lists l.now vertex.entry output.entry spans.entry }
+{
+    Lists {
+        p: l.p,
+        span: l.span,
+        form: copied(&l.form),
+        vertex,
+        output,
+        spans,
+    }
 }
 
 /// Equal squares.
