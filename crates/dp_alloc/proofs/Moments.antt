@@ -12,5 +12,5 @@ turn_along turn direction ahead starboard =
     let x = var 4 in
     let y = var 5 in
     ring (turn.0 ∷ turn.1 ∷ direction.0 ∷ direction.1 ∷ ahead ∷ starboard ∷ [])
-        ((a ⊗ x ⊕ minus (b ⊗ y)) ⊗ (a ⊗ s ⊕ b ⊗ c) ⊕ minus ((a ⊗ y ⊕ b ⊗ x) ⊗ (a ⊗ c ⊕ minus (b ⊗ s))))
-        ((a ⊗ a ⊕ b ⊗ b) ⊗ (x ⊗ s ⊕ minus (y ⊗ c))) tt
+    ((a ⊗ x ⊕ minus (b ⊗ y)) ⊗ (a ⊗ s ⊕ b ⊗ c) ⊕ minus ((a ⊗ y ⊕ b ⊗ x) ⊗ (a ⊗ c ⊕ minus (b ⊗ s))))
+    ((a ⊗ a ⊕ b ⊗ b) ⊗ (x ⊗ s ⊕ minus (y ⊗ c))) tt

@@ -111,8 +111,17 @@ module _ {S T : Type 0} (texts : S → Option Files) (names : S → List ℕ →
 
         record_failed : (file : File) → RecordFailed (numbers second) (numbers new) record_name file → Failed file
         record_failed file (is, rose) =
-            inr (plant_passed, inr (script_passed, inl (sym is, rose_since (numbers old record_name) (numbers second record_name) (numbers new record_name)
-            (keeps_second.none_falls record_name) rose)))
+            inr (
+              plant_passed,
+              inr (
+                script_passed,
+                inl (
+                  sym is,
+                  rose_since (numbers old record_name) (numbers second record_name) (numbers new record_name)
+                      (keeps_second.none_falls record_name) rose,
+                ),
+              ),
+            )
 
         abbrev Wrote : (File → Type 0) → Files → Type 0
         Wrote failed told = HasWritten failed (pieces_in (asked told)) (outcome_of (asked told)).text s (taken before) (taken after)

@@ -70,11 +70,23 @@ fn records_are_read_frame_by_frame(rt: HostRuntime) -> Result<(), Fail> {
     let rows: &[(&str, &str)] = &[
         ("", "whole"),
         ("0 pos0 L 1 2\n", "0:1 whole"),
-        ("0 pos0 L 1 2\n0 pos1 L 1 2\n1000 pos0 L 1 2", "0:2 1:1 whole"),
-        ("0 pos0 L 1 2\n4000 pos1 L 3 4\n", "0:1 1:0 2:0 3:0 4:1 whole"),
+        (
+            "0 pos0 L 1 2\n0 pos1 L 1 2\n1000 pos0 L 1 2",
+            "0:2 1:1 whole",
+        ),
+        (
+            "0 pos0 L 1 2\n4000 pos1 L 3 4\n",
+            "0:1 1:0 2:0 3:0 4:1 whole",
+        ),
         ("2000 pos0 L 1 2\n", "0:0 1:0 2:1 whole"),
-        ("0 pos0 L 1 2\n1000 pos1 L 3 4\nnotime\n2000 pos0 L 1 2\n", "0:1 refused"),
-        ("0 pos0 L 1 2\n1000 pos1 L 3 4\n1000 pos1 L 3 4\n900", "0:1 refused"),
+        (
+            "0 pos0 L 1 2\n1000 pos1 L 3 4\nnotime\n2000 pos0 L 1 2\n",
+            "0:1 refused",
+        ),
+        (
+            "0 pos0 L 1 2\n1000 pos1 L 3 4\n1000 pos1 L 3 4\n900",
+            "0:1 refused",
+        ),
         ("0 pos0 L 1 2\n3000 pos1 L 3 4\nx", "0:1 1:0 2:0 refused"),
     ];
     for (record, wanted) in rows {

@@ -8,7 +8,13 @@ use std::process::Abort;
 use std::test::Fail;
 
 /// Plays a record on a plant, and compares what is told.
-fn check(rt: &impl Abort, alloc: Global, plant: &str, record: &str, wanted: &str) -> Result<(), Fail> {
+fn check(
+    rt: &impl Abort,
+    alloc: Global,
+    plant: &str,
+    record: &str,
+    wanted: &str,
+) -> Result<(), Fail> {
     let files = named(alloc, plant.as_bytes(), record.as_bytes(), b"")?;
     let seen = told(rt, alloc, &REPLAY, files)?;
     assert_eq!(rt; seen.as_str(), wanted, "on {record}");
@@ -82,7 +88,10 @@ fn a_vessel_with_twelve_thrusters_is_played(rt: HostRuntime) -> Result<(), Fail>
     let (_, rest) = rest.split_once("[[ref]]").unwrap_or(("", ""));
     let (sensors, rest) = rest.split_once("[[thruster]]").unwrap_or(("", ""));
     let (_, gains) = rest.split_once("[gains]").unwrap_or(("", ""));
-    let plant = text_of(alloc, &[vessel, MASSES, "[[ref]]", sensors, TWELVE, "[gains]", gains])?;
+    let plant = text_of(
+        alloc,
+        &[vessel, MASSES, "[[ref]]", sensors, TWELVE, "[gains]", gains],
+    )?;
     check(&rt, alloc, &plant, WATCH, TOLD)
 }
 
