@@ -172,6 +172,22 @@ def groups_lost(cycle_of_group):
     return lines()
 
 
+def told_and_back(group, first, last):
+    """Tells that a group is lost in a cycle, and that it is ready again in another."""
+    told = [(cycle * 1000 + 600, "%d grp%d G %d" % (cycle * 1000 + 600, group, ready)) for cycle, ready in ((first, 0), (last, 1))]
+    told += [(int(line.split(" ")[0]), line) for line in watch()]
+    return (line for _, line in sorted(told))
+
+
+def later(cycle, jump):
+    """The watch with a clock that jumps ahead in a cycle, up to the same last cycle."""
+    for line in watch():
+        time, rest = line.split(" ", 1)
+        time = int(time) + (jump if int(time) >= cycle * 1000 else 0)
+        if time < CYCLES * 1000:
+            yield "%d %s" % (time, rest)
+
+
 def silent(cycle, rest, rng):
     return None
 
@@ -210,6 +226,7 @@ FAILURES = {
     "two_faulty_in_turn": (watch(), "Computer 1 says false forces in cycle 8, starts again in cycle 9 and rejoins; computer 2 is skewed in cycle 10.",
                            ["8 say 1 0 100000", "8 usual", "9 restart 1", "9 run 0", "9 run 2", "9 tell 0 1", "9 tell 2 1", "9 orders 0", "9 orders 2",
                             "10 skew 2 20000000000 0", "10 usual"]),
+    "all_restarted": (watch(), "All three computers start again in cycle 8.", ["8 restart 0", "8 restart 1", "8 restart 2", "8 usual"]),
     "software_upgraded": (watch(), "Software 2 is put on computers 2, 1 and 0, one after another; each rejoins before the next leaves.",
                           [line for cycle, one, others in ((8, 2, (0, 1)), (12, 1, (0, 2)), (16, 0, (1, 2)))
                            for line in ["%d upgrade %d" % (cycle, one), "%d usual" % cycle, "%d usual" % (cycle + 1)]
@@ -231,10 +248,16 @@ FAILURES = {
                            "No fault: pos2 drifts off by half a metre a cycle, from cycle 8 to 17, and comes back at once.", []),
     "reference_damaged": (watch(wrong(["pos1"], lambda cycle, rest, rng: "$GPGGA,123519,4807.0?85,N,01131.000,E,1,08*40")),
                           "No fault: each line of pos1 is damaged from cycle 8 to 17.", []),
+    "references_drifting_alike": (watch(wrong(["pos1", "pos2"], lambda cycle, rest, rng: moved(rest, 0, 400 * (cycle - FROM + 1)))),
+                                  "No fault: pos1 and pos2 drift off alike, by 0.4 m a cycle, from cycle 8 to 17.", []),
     "references_lost": (watch(wrong(POSITIONS, silent)), "No fault: all references are silent from cycle 8 to 17.", []),
     "gyro_false": (watch(wrong(["gyro1"], lambda cycle, rest, rng: sentence("HEHDT,90.0,T"))), "No fault: gyro1 says 90 degrees from cycle 8 to 17.", []),
+    "gyros_false_alike": (watch(wrong(["gyro1", "gyro2"], lambda cycle, rest, rng: sentence("HEHDT,60.0,T"))),
+                          "No fault: gyro1 and gyro2 say 60 degrees from cycle 8 to 17.", []),
     "heading_lost": (watch(wrong(GYROS, silent)), "No fault: all gyros are silent from cycle 8 to 17.", []),
     "wind_lost": (watch(wrong(WINDS, silent)), "No fault: all wind sensors are silent from cycle 8 to 17.", []),
+    "group_falsely_lost": (told_and_back(1, FROM, TO), "No fault: thruster group 1 is told lost in cycle 8, though it works, and ready in cycle 18.", []),
+    "clock_jumps": (later(12, 6000), "No fault: the record's clock jumps by six seconds in cycle 12.", []),
     "group_lost": (groups_lost({1: 8}), "No fault: thruster group 1 is told lost in cycle 8.", []),
     "groups_lost": (groups_lost({1: 8, 0: 14}), "No fault: thruster group 1 is told lost in cycle 8, and group 0 in cycle 14.", []),
 }
