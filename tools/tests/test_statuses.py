@@ -59,12 +59,12 @@ class Statuses(ToolTest):
 
     def test_a_longer_record(self):
         """Every cycle of four megabytes is played, from a file and from a pipe alike."""
-        text = "".join("%d pos%d L %d %d\n" % (1000 * n, i, n % 97 * 100 + i, -n % 89) for n in range(40000) for i in range(3))
+        text = "".join("%d pos%d L %d %d\n" % (1000 * n, i, n % 97 * 100 + i, -n % 89) for n in range(60000) for i in range(3))
         self.assertGreater(len(text), 3 << 20)
         record, plant, script = self.file("record", text), at_root("plants", "S1.toml"), self.file("script", "")
         whole = self.ran("replay", plant, record, script).stdout
-        self.assertEqual(b"end 40000", whole.splitlines()[-1])
-        self.assertEqual(40000, whole.count(b"\ncycle ") + 1)
+        self.assertEqual(b"end 60000", whole.splitlines()[-1])
+        self.assertEqual(60000, whole.count(b"\ncycle ") + 1)
         with open(os.path.join(self.folder, record), "rb") as file:
             piped = subprocess.run(["sh", "-c", "cat | exec \"$0\" \"$@\"", *program(), "replay", plant, "/dev/stdin", script],
                                    cwd=self.folder, stdin=file, stdout=subprocess.PIPE, check=True).stdout
