@@ -54,11 +54,7 @@ pub fn accept_plant<F: Shelf>(
 }
 
 /// Reads a plant file, and judges its keys and its cases. The gains aren't judged.
-pub fn read_plant<F: Shelf>(
-    alloc: Global,
-    shelf: &mut F,
-    name: &str,
-) -> Result<Plant, PlantTrouble>
+pub fn read_plant<F: Shelf>(alloc: Global, shelf: &mut F, name: &str) -> Result<Plant, PlantTrouble>
     ensures ok { IfOk result (λ p. IfSome (F.files shelf.old) (λ files.
         data_in (text_named files name.now) ≡ Ok (plant_view p))) }
     ensures accepted { IfOk result AreAccepted }

@@ -32,15 +32,26 @@ pub enum Fault {
     /// The words are no command.
     Usage,
     /// A file can't be read.
-    Read { file: File },
+    Read {
+        file: File,
+    },
     /// A file is longer than its limit.
-    Long { file: File },
+    Long {
+        file: File,
+    },
     /// The plant file is refused.
-    BadPlant { why: PlantRefusal },
+    BadPlant {
+        why: PlantRefusal,
+    },
     /// The plant's gains are refused.
-    GainsRefused { why: GainsRefusal },
+    GainsRefused {
+        why: GainsRefusal,
+    },
     /// The first faulty line of the script.
-    BadScript { line: u64, kind: ScriptKind },
+    BadScript {
+        line: u64,
+        kind: ScriptKind,
+    },
     /// The first faulty line of a record.
     BadRecord {
         file: File,
@@ -48,7 +59,9 @@ pub enum Fault {
         kind: LineFault,
     },
     /// A line of a record, in which no earlier line is faulty, is of a cycle of 2^20 or more.
-    LongCycles { cycle: u64 },
+    LongCycles {
+        cycle: u64,
+    },
     /// Memory was wanted.
     Memory,
 }
