@@ -83,10 +83,6 @@ module _ (judge : Plant → Option GainsRefusal) where
   -- ---- from what was read and judged
 
   module _ (text : Option (List ℕ)) where
-    -- the file was refused
-    pub bad_file : (why : PlantTrouble) → data_in text ≡ Err why → GivesPlant judge text (Err why)
-    bad_file why is = subst (λ (d : Result PlantData PlantTrouble). Judged judge d (Err why)) (sym is) refl
-
     module _ (p : Plant) (found : data_in text ≡ Ok (plant_view p)) where
       by_fault : (o : Option PlantTrouble) → plant_fault judge p ≡ o → GivesPlant judge text (unless_refused o p)
       by_fault o is =

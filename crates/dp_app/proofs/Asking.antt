@@ -1,5 +1,5 @@
 -- What words and files ask for is one thing, and there is one.
-use Rattle.std.proofs.Common.{◌≡◌, ℕ, List, Option, Some, None, Err, Ok, Result, IfSome, refl, sym, ap, ◌∙◌, subst}
+use Rattle.std.proofs.Common.{◌≡◌, Option, Some, None, Err, Ok, Result, IfSome, refl, sym, ap, ◌∙◌, subst}
 use Rattle.dp_accept.proofs.Judging.{given_once, something_given}
 use Rattle.dp_shell.specs.Texts.{Files, text_named}
 use Rattle.dp_app.specs.declared.fault.Fault.{Fault}

@@ -1,15 +1,14 @@
 -- The text of a check, case by case.
 use Rattle.std.proofs.Common.{◌≡◌, ℕ, ◌+◌, ◌<◌, ◌∷◌, [], ◌++◌, List, Option, length, take, drop, codes, get_or, refl, sym, ap, ◌∙◌, subst, append_assoc}
-use Rattle.std.specs.Io.KnownBytes.{Appends}
 use Rattle.std.specs.List.{flat_map}
-use Rattle.std.proofs.lemmas.List.{append-nil, take_all, take_more, take-append-drop}
+use Rattle.std.proofs.lemmas.List.{append-nil, take_more, take-append-drop}
 use Rattle.std.proofs.lemmas.List.Concat.{flat_map-append}
 use Rattle.dp_plant.specs.declared.plant.Plant.{Plant}
 use Rattle.dp_plant.specs.declared.thrusters.RawCase.{RawCase}
-use Rattle.dp_shell.proofs.Taken.{cut_after, cut_before}
+use Rattle.dp_shell.proofs.Taken.{cut_before}
 use Rattle.dp_shell.specs.Taken.{AppendsCut}
 use Rattle.dp_app.specs.Check.{case_text, cases_text, check_text}
-use Rattle.dp_app.specs.Endings.{end_line}
+use Rattle.dp_app.specs.FaultLines.{end_line}
 
 -- the text of the first n cases
 abbrev pub text_so_far : Plant → ℕ → List ℕ

@@ -1,6 +1,6 @@
 -- What the files of a command give, from what was read of them.
-use Rattle.std.proofs.Common.{◌≡◌, ◌≢◌, ◌≤◌, ℕ, Bool, List, [], ◌∷◌, Option, Some, None, Err, Ok, Result, IfSome, IsNone, IsTrue, inl, inr, refl, sym, ap, ◌∙◌, subst, arith}
-use Rattle.dp_accept.specs.{GivesPlant, IsOfFile, by_own_certificate}
+use Rattle.std.proofs.Common.{◌≡◌, ◌≢◌, ℕ, Bool, List, [], ◌∷◌, Option, Some, None, Err, Ok, Result, IfSome, inl, refl, sym, ap, ◌∙◌, subst, arith}
+use Rattle.dp_accept.specs.{GivesPlant, IsOfFile}
 use Rattle.dp_accept.specs.declared.refusals.GainsRefusal.{GainsRefusal}
 use Rattle.dp_accept.specs.declared.trouble.PlantTrouble.{PlantTrouble}
 use Rattle.dp_accept.specs.declared.trouble.PlantTrouble.TheVariants as plant
@@ -15,14 +15,14 @@ use Rattle.dp_app.specs.declared.fault.File.TheVariants as file
 use Rattle.dp_app.specs.declared.script_file.ScriptTrouble.{ScriptTrouble}
 use Rattle.dp_app.specs.declared.script_file.ScriptTrouble.TheVariants as script
 use Rattle.dp_app.specs.declared.status.Status.TheVariants as status
-use Rattle.dp_app.specs.Causes.{HasPassed, IsNoneOf, ReadFailed, ReadsAmong, RoseAt}
+use Rattle.dp_app.specs.Causes.{IsNoneOf, ReadFailed, ReadsAmong}
 use Rattle.dp_app.specs.Complete.{AsksAlone, AsksNoFile}
 use Rattle.dp_app.specs.FaultLines.{fault_status}
-use Rattle.dp_app.specs.Outcome.{Asks, AsksFor, Matter, Task, alone, matter_of, on_plant, to_make}
-use Rattle.dp_app.specs.Scripts.{IsOfScript, script_in}
+use Rattle.dp_app.specs.Outcome.{Asks, AsksFor, Matter, Task, alone, matter_of, on_plant}
+use Rattle.dp_app.specs.Scripts.{IsOfScript}
 use Rattle.dp_app.specs.Status.{IsOfInputs}
 use Rattle.dp_app.specs.Troubles.{plant_fault, script_fault}
-use Rattle.dp_app.specs.Words.{Command, FileNamed, files_of, make, plant_file}
+use Rattle.dp_app.specs.Words.{Command, FileNamed, files_of, plant_file}
 use Rattle.dp_app.proofs.Asking.{any_files, each_file}
 use Rattle.dp_app.proofs.Endings.{same_read}
 use Rattle.dp_app.proofs.Running.{IsRefusedWith, IsTold, reads_nothing, some_none}
@@ -79,14 +79,15 @@ module _ {S : Type 0} (texts : S → Option Files) (names : S → List ℕ → B
     none_falls = h.none_falls;
   }
 
-  -- the record of a number needs none
-  pub made_told : (a : S) (number : ℕ) → IsTold texts names numbers (Some (make number)) a a (to_make number)
-  made_told a number = record {
-    asked = any_files (texts a) (λ told. Asks (Some (make number)) told (Ok (to_make number))) (λ told. refl);
-    sound = refl;
-    some = some_none (make number);
-    alone = λ x is. is;
-    keeps = reads_nothing texts names numbers [] a;
+  -- a task alone needs none
+  pub alone_told : (a : S) (command : Command) (task : Task) → matter_of command ≡ alone task → files_of command ≡ [] → task.fault ≡ None
+      → IsTold texts names numbers (Some command) a a task
+  alone_told a command task matter none sound = record {
+    asked = any_files (texts a) (λ told. Asks (Some command) told (Ok task)) (λ told. subst (λ (m : Matter). AsksFor m told (Ok task)) (sym matter) refl);
+    sound = sound;
+    some = some_none command;
+    alone = λ x is. subst (λ (m : Matter). AsksAlone m x) matter is;
+    keeps = subst (λ (fs : List FileNamed). ReadsAmong texts names numbers fs a a) (sym none) (reads_nothing texts names numbers [] a);
   }
 
   pub reads_then : (fs : List FileNamed) (name : List ℕ) (a b c : S) → ((other : List ℕ) → IsNoneOf fs other → other ≢ name)
@@ -112,7 +113,7 @@ module _ {S : Type 0} (texts : S → Option Files) (names : S → List ℕ → B
     -- its plant's file is refused
     pub plant_refused : (new : S) (rest : List FileNamed) → files_of command ≡ plant_file name ∷ rest → (why : PlantTrouble)
         → (IsOfFile why → IfSome (texts old) (λ told. GivesPlant judge (text_named told name) (Err why)))
-        → (why ≡ plant.Read → RoseAt (numbers old) (numbers new) name) → Keeps new
+        → (why ≡ plant.Read → Rose (numbers old name) (numbers new name)) → Keeps new
         → IsRefusedWith texts names numbers (Some command) old new (plant_fault why)
     plant_refused new rest files why given rose keeps = record {
       asked = λ is.

@@ -13,7 +13,7 @@ use Rattle.clap.specs.Kinds.{range_kinds}
 use Rattle.clap.specs.Faults.{turn_fault, walk_fault, settle_fault, defaults_fault, check_fault, values_fault}
 use Rattle.clap.specs.declared.parser.matches.ValueSource.TheVariants.{CommandLine}
 use Rattle.std.specs.Prelude.{option_and_then}
-use Rattle.dp_app.specs.Words.{Command, command_by, command_in}
+use Rattle.dp_app.specs.Words.{command_by, command_in}
 use Rattle.clap.proofs.OnLiterals.{clap_on_literals}
 use Rattle.dp_app.specs.CommandLine.{ArePlainWords, dp, first_rule, rest_rule, is_plain_word, read_words}
 

@@ -1,5 +1,5 @@
 -- What every plant gives those who run it.
-use Rattle.std.proofs.Common.{◌≡◌, ◌<◌, ◌≤◌, ℕ, All, get_or, length, arith}
+use Rattle.std.proofs.Common.{◌<◌, ◌≤◌, ℕ, All, get_or, length, arith}
 use Rattle.dp_cert.specs.Bound.{IsShareRow}
 use Rattle.dp_plant.specs.declared.plant.Plant.{Plant}
 use Rattle.dp_plant.specs.declared.thrusters.RawCase.{RawCase}

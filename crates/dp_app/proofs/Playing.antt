@@ -1,7 +1,6 @@
 -- One more cycle of what has been played, and what is written of it.
-use Rattle.std.proofs.Common.{◌≡◌, ℕ, zero, suc, Bool, true, false, is_none, ◌+◌, ◌-◌, ◌<◌, List, [], ◌∷◌, ◌++◌, map, refl, sym, ap, ◌∙◌, subst, arith, add-one, append_assoc, length-append}
-use Rattle.std.specs.List.{range_with_len}
-use Rattle.std.proofs.lemmas.List.{append-nil, map-append}
+use Rattle.std.proofs.Common.{◌≡◌, ℕ, Bool, true, false, is_none, ◌+◌, List, [], ◌∷◌, ◌++◌, refl, sym, ap, ◌∙◌, subst, length-append}
+use Rattle.std.proofs.lemmas.List.{append-nil}
 use Rattle.std.proofs.lemmas.Grind.{flat_map-append}
 use Rattle.dp_plant.specs.declared.frames.Frame.{Frame}
 use Rattle.dp_plant.specs.declared.plant.Plant.{Plant}
@@ -10,9 +9,6 @@ use Rattle.dp_core.specs.declared.event.Event.{Event}
 use Rattle.dp_report.specs.declared.block.Block.{Block}
 use Rattle.dp_core.specs.Mode.{cycles_begun}
 use Rattle.dp_core.specs.Represents.{Represents}
-use Rattle.dp_frame.specs.declared.feed.Feed.TheVariants.{Closed}
-use Rattle.dp_frame.specs.Feeds.{given}
-use Rattle.dp_frame.specs.Frames.{no_frame}
 use Rattle.dp_report.specs.Block.{block_text}
 use Rattle.dp_script.specs.declared.timed_act.TimedAct.{TimedAct}
 use Rattle.dp_app.specs.declared.player.Player.{Player}
@@ -20,7 +16,6 @@ use Rattle.dp_app.specs.Acting.{cycle_events, play_events}
 use Rattle.dp_app.specs.Blocks.{block_of, blocks, text_of}
 use Rattle.dp_app.specs.Playing.{HasCounted, HasPlayed, text_played, text_told}
 use Rattle.dp_app.proofs.PlayedFrames.{begun_played}
-use Rattle.dp_app.proofs.Lists.{range_suc}
 use Rattle.dp_app.proofs.Plays.{blocks_append, played_next}
 
 -- ---- what is written of blocks
@@ -96,32 +91,3 @@ module _ (p : Plant) (script : List TimedAct) (fs : List Frame) (f : Frame) wher
   pub text_same : (w : Bool) → w ≡ false → text_played p script w fs ≡ text_played p script w (fs ++ f ∷ [])
   text_same true is = absurd cc
   text_same false is = refl
-
--- ---- a frame and the empty ones that follow it
-
-pub given_next : (f : Frame) (k : ℕ) → given (Closed f (k + 1)) ≡ given (Closed f k) ++ no_frame (f.cycle + 1 + k) ∷ []
-given_next f k =
-    ap (λ (n : ℕ). given (Closed f n)) (add-one k)
-    ∙ ap (λ (l : List ℕ). f ∷ map no_frame l) (range_suc (f.cycle + 1) k)
-    ∙ ap (λ (l : List Frame). f ∷ l) (map-append no_frame (range_with_len (f.cycle + 1) k) ((f.cycle + 1 + k) ∷ []))
-
-given_later : (f : Frame) (k n : ℕ) → (later : List Frame) × (given (Closed f (k + n)) ≡ given (Closed f k) ++ later)
-given_later f k zero = ([], ap (λ (m : ℕ). given (Closed f m)) (let e : k + 0 ≡ k = omega arith in e) ∙ sym (append-nil (given (Closed f k))))
-given_later f k (suc n) =
-    let before = given_later f k n in (
-      before.0 ++ no_frame (f.cycle + 1 + (k + n)) ∷ [],
-      ap (λ (m : ℕ). given (Closed f m)) (let e : k + suc n ≡ k + n + 1 = omega arith in e) ∙ given_next f (k + n)
-          ∙ ap (λ (l : List Frame). l ++ no_frame (f.cycle + 1 + (k + n)) ∷ []) before.1
-          ∙ append_assoc (given (Closed f k)) before.0 (no_frame (f.cycle + 1 + (k + n)) ∷ []),
-    )
-
-pub given_split : (f : Frame) (k n : ℕ) → k < n → (later : List Frame) × ((given (Closed f k) ++ no_frame (f.cycle + 1 + k) ∷ []) ++ later ≡ given (Closed f n))
-given_split f k n lt =
-    let l = given_later f (k + 1) (n - (k + 1)) in (
-      l.0,
-      ap (λ (x : List Frame). x ++ l.0) (sym (given_next f k)) ∙ sym l.1
-          ∙ ap (λ (m : ℕ). given (Closed f m)) (let e : k + 1 + (n - (k + 1)) ≡ n = omega (arith, lt) in e),
-    )
-
-pub given_whole : (f : Frame) (n : ℕ) → (later : List Frame) × ((f ∷ []) ++ later ≡ given (Closed f n))
-given_whole f n = (map no_frame (range_with_len (f.cycle + 1) n), refl)

@@ -1,21 +1,21 @@
 -- What a replay comes to: its plant and its script were read, and its record was played.
-use Rattle.std.proofs.Common.{◌≡◌, ◌≢◌, ◌≤◌, ℕ, Bool, List, [], ◌∷◌, Option, Some, Ok, Err, Result, IfSome, inl, inr, refl, sym, ap, ◌∙◌, subst, arith}
+use Rattle.std.proofs.Common.{◌≡◌, ◌≢◌, ℕ, Bool, List, [], ◌∷◌, Option, Some, Ok, Err, Result, IfSome, inl, inr, sym, ap, ◌∙◌, subst}
 use Rattle.dp_accept.specs.{GivesPlant, by_own_certificate}
 use Rattle.dp_plant.specs.declared.plant.Plant.{Plant}
 use Rattle.dp_script.specs.declared.timed_act.TimedAct.{TimedAct}
-use Rattle.dp_shell.specs.Faults.{NoneFalls, Rose}
+use Rattle.dp_shell.specs.Faults.{Rose}
 use Rattle.dp_shell.specs.Texts.{Files, text_named}
 use Rattle.dp_shell.specs.{ReadsOnly}
 use Rattle.dp_app.specs.declared.fault.Fault.{Fault}
 use Rattle.dp_app.specs.declared.fault.File.{File}
-use Rattle.dp_app.specs.declared.fault.File.TheVariants.{Record, Script}
+use Rattle.dp_app.specs.declared.fault.File.TheVariants.{Record}
 use Rattle.dp_app.specs.declared.player.Player.{Player}
 use Rattle.dp_app.specs.declared.script_file.ScriptTrouble.{ScriptTrouble}
 use Rattle.dp_app.specs.declared.script_file.ScriptTrouble.TheVariants as script
 use Rattle.dp_app.specs.declared.status.Status.{Status}
 use Rattle.dp_app.specs.declared.status.Status.TheVariants as status
-use Rattle.dp_app.specs.Causes.{HasPassed, ReadFailed, ReadsAmong, RecordFailed, RoseAt}
-use Rattle.dp_app.specs.Outcome.{Asks, Task, outcome_of, pieces_in, task_by, with_record, with_script}
+use Rattle.dp_app.specs.Causes.{HasPassed, ReadFailed, ReadsAmong, RecordFailed}
+use Rattle.dp_app.specs.Outcome.{Asks, Task, outcome_of, pieces_in, with_record, with_script}
 use Rattle.dp_app.specs.Running.{Runs}
 use Rattle.dp_app.specs.Scripts.{IsOfScript, script_in}
 use Rattle.dp_app.specs.Status.{IsOfInputs}
@@ -26,6 +26,7 @@ use Rattle.dp_app.specs.Written.{EndsAtRead, HasWritten, IsAnnounced}
 use Rattle.dp_app.proofs.Asking.{both_files, each_file, of_each}
 use Rattle.dp_app.proofs.Endings.{written_more}
 use Rattle.dp_app.proofs.Files.{reads_first, reads_then, script_given, script_no_usage, script_read}
+use Rattle.dp_app.proofs.Outcomes.{rose_before}
 use Rattle.dp_app.proofs.Running.{IsRefusedWith, some_none}
 
 module _ {S T : Type 0} (texts : S → Option Files) (names : S → List ℕ → Bool) (numbers : S → List ℕ → ℕ) (taken : T → Option (List ℕ)) (troubles : T → ℕ)
@@ -50,9 +51,6 @@ module _ {S T : Type 0} (texts : S → Option Files) (names : S → List ℕ →
     keeps_second =
         reads_then texts names numbers (files_of (replay plant_name record_name script_name)) script_name old first second (λ other ne. ne.1.0) keeps_first read_script
 
-    rose_since : (a b c : ℕ) → a ≤ b → Rose b c → Rose a c
-    rose_since a b c le rose = omega arith
-
     -- ---- the script is refused
 
     asks_refused : (told : Files) (why : ScriptTrouble) → GivesPlant by_own_certificate (text_named told plant_name) (Ok p)
@@ -60,7 +58,7 @@ module _ {S T : Type 0} (texts : S → Option Files) (names : S → List ℕ →
     asks_refused told why h is = (Ok p, h, sym (ap (λ (r : Result (List TimedAct) ScriptTrouble). with_script p r (text_named told record_name)) is))
 
     pub script_refused : (why : ScriptTrouble) → (IsOfScript why → IfSome (texts first) (λ told. script_in (text_named told script_name) ≡ Err why))
-        → (why ≡ script.Read → RoseAt (numbers first) (numbers second) script_name) → IsRefusedWith texts names numbers command old second (script_fault why)
+        → (why ≡ script.Read → Rose (numbers first script_name) (numbers second script_name)) → IsRefusedWith texts names numbers command old second (script_fault why)
     script_refused why bad rose = record {
       asked = λ is.
           both_files (texts old) (λ told. GivesPlant by_own_certificate (text_named told plant_name) (Ok p)) (λ told. script_in (text_named told script_name) ≡ Err why)
@@ -71,7 +69,7 @@ module _ {S T : Type 0} (texts : S → Option Files) (names : S → List ℕ →
       alone = λ x h. absurd h;
       read = λ f is.
           let both = script_read why f is in
-          inr (plant_passed, inl (both.1, rose_since (numbers old script_name) (numbers first script_name) (numbers second script_name) (read_plant.none_falls script_name) (rose both.0)));
+          inr (plant_passed, inl (both.1, rose_before (numbers old script_name) (numbers first script_name) (numbers second script_name) (read_plant.none_falls script_name) (rose both.0)));
       keeps = keeps_second;
     }
 
@@ -117,7 +115,7 @@ module _ {S T : Type 0} (texts : S → Option Files) (names : S → List ℕ →
                 script_passed,
                 inl (
                   sym is,
-                  rose_since (numbers old record_name) (numbers second record_name) (numbers new record_name)
+                  rose_before (numbers old record_name) (numbers second record_name) (numbers new record_name)
                       (keeps_second.none_falls record_name) rose,
                 ),
               ),

@@ -1,6 +1,5 @@
 -- What holds of a result that is answered as it stands.
-use Rattle.std.proofs.Common.{◌≡◌, Result, Ok, Err, OnErr, OnOk}
-use Rattle.std.specs.Result.{IsErrOf}
+use Rattle.std.proofs.Common.{Result, Ok, Err, OnErr, OnOk}
 
 pub on_ok : {A B : Type 0} (r : Result A B) (P Q : Type 0) → (P → Q) → OnOk r P → OnOk r Q
 on_ok (Ok x) P Q f h = f h
@@ -9,10 +8,3 @@ on_ok (Err e) P Q f h = tt
 pub on_err : {A B : Type 0} (r : Result A B) (P Q : Type 0) → (P → Q) → OnErr r P → OnErr r Q
 on_err (Ok x) P Q f h = tt
 on_err (Err e) P Q f h = f h
-
-pub same_err : (A : Type 0) {B : Type 0} (x y : B) → IsErrOf {T = A} (Err x) y → x ≡ y
-same_err A x y e = cc
-
-pub any_err : {A B : Type 0} (r : Result A B) (P : Type 0) → P → OnErr r P
-any_err (Ok x) P h = tt
-any_err (Err e) P h = h

@@ -1,5 +1,5 @@
 -- What a run of a command comes to, from what its calls answer.
-use Rattle.std.proofs.Common.{◌≡◌, ◌≢◌, ◌⊎◌, ℕ, Bool, List, [], Option, Some, None, Err, Ok, Result, IfSome, IsNone, inl, inr, refl, sym, ap, ◌∙◌, subst, arith}
+use Rattle.std.proofs.Common.{◌≡◌, ◌⊎◌, ℕ, Bool, List, [], Option, Some, None, Err, Ok, Result, IfSome, IsNone, inl, inr, refl, sym, ap, ◌∙◌, subst, arith}
 use Rattle.dp_shell.specs.Faults.{Rose}
 use Rattle.dp_shell.specs.Texts.{Files}
 use Rattle.dp_app.specs.declared.fault.Fault.{Fault}

@@ -11,10 +11,6 @@ use Rattle.dp_app.specs.declared.fault.File.TheVariants.{Plant, Script, Record, 
 use Rattle.dp_app.specs.Scripts.{script_in}
 use Rattle.dp_app.specs.Words.{FileNamed}
 
--- the number of a name's faults rose
-abbrev pub RoseAt : (List ℕ → ℕ) → (List ℕ → ℕ) → List ℕ → Type 0
-RoseAt before now name = Rose (before name) (now name)
-
 -- a file is there and has no fault that is judged before the next one is read; a record is judged
 -- as it is played
 abbrev pub Passes : File → Option (List ℕ) → Type 0
@@ -32,17 +28,17 @@ HasPassed told f = Passes f.file (text_named told f.name)
 abbrev pub ReadFailed : Option Files → (List ℕ → ℕ) → (List ℕ → ℕ) → List FileNamed → File → Type 0
 ReadFailed files before now [] file = ⊥
 ReadFailed files before now (f ∷ fs) file =
-    ((f.file ≡ file) × RoseAt before now f.name)
+    ((f.file ≡ file) × Rose (before f.name) (now f.name))
     ⊎ (IfSome files (λ told. HasPassed told f) × ReadFailed files before now fs file)
 
 -- a read of the record of this name failed
 abbrev pub RecordFailed : (List ℕ → ℕ) → (List ℕ → ℕ) → List ℕ → File → Type 0
-RecordFailed before now name file = (file ≡ Record) × RoseAt before now name
+RecordFailed before now name file = (file ≡ Record) × Rose (before name) (now name)
 
 -- a read of one of these files failed
 abbrev pub AnyRose : List FileNamed → (List ℕ → ℕ) → (List ℕ → ℕ) → Type 0
 AnyRose [] before now = ⊥
-AnyRose (f ∷ fs) before now = RoseAt before now f.name ⊎ AnyRose fs before now
+AnyRose (f ∷ fs) before now = Rose (before f.name) (now f.name) ⊎ AnyRose fs before now
 
 -- a name is none of these files'
 abbrev pub IsNoneOf : List FileNamed → List ℕ → Type 0

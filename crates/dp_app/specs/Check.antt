@@ -6,7 +6,7 @@ use Rattle.dp_cert.specs.Bound.{bound}
 use Rattle.dp_plant.specs.declared.cert.Cert.{Cert}
 use Rattle.dp_plant.specs.declared.plant.Plant.{Plant}
 use Rattle.dp_plant.specs.declared.thrusters.RawCase.{RawCase}
-use Rattle.dp_app.specs.Endings.{end_line}
+use Rattle.dp_app.specs.FaultLines.{end_line}
 
 -- the line of thruster k: its two numbers, as the certificate's bound has them
 unfoldable pub bound_line : ℕ → ℤ × ℤ → List ℕ

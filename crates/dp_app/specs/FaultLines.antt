@@ -1,4 +1,4 @@
--- The fault lines, and the status that goes with each.
+-- The last lines: those of faults, and the status that goes with each; and the number of cycles.
 use Rattle.std.specs.Prelude.{ℕ, List, ◌++◌, codes}
 use Rattle.std.specs.Fmt.{decimal}
 use Rattle.dp_accept.specs.Lines.{gains_line, plant_line}
@@ -73,3 +73,7 @@ fault_status (BadScript line kind) = status.BadScript
 fault_status (BadRecord file line kind) = status.BadRecord
 fault_status (LongCycles cycle) = status.TooLong
 fault_status Memory = status.Memory
+
+-- the last line of what does not end with a fault: after so many cycles, or cases
+unfoldable pub end_line : ℕ → List ℕ
+end_line count = codes "end " ++ (decimal count ++ codes "\n")

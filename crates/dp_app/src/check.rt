@@ -5,7 +5,8 @@ ghost use Rattle.arrayvec.specs.ArrayVec.{array_vec_len};
 ghost use Rattle.dp_cert.specs.{IsShareRow};
 ghost use Rattle.dp_machine.specs.{IsAcceptedPlant};
 ghost use Rattle.dp_shell.specs.{AppendsCut, HasWriteCause, Rose};
-ghost use Rattle.dp_app.specs.{HasWritten, NoReadFailed, Runs, check, check_text};
+ghost use Rattle.dp_app.specs.Words.{check};
+ghost use Rattle.dp_app.specs.{HasWritten, NoReadFailed, Runs, check_text};
 ghost use Rattle.dp_app.specs.Check.{bound_line, bound_lines, case_text, cases_text};
 
 use crate::Status;

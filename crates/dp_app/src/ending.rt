@@ -77,7 +77,7 @@ pub fn announce<K: Sink>(out: &mut K, fault: Fault) -> Status
 }
 
 /// The last line of what doesn't end with a fault: how many cycles there were, or cases.
-#[tactic(auto, unfolding(crate::specs::Endings::end_line))]
+#[tactic(auto, unfolding(crate::specs::FaultLines::end_line))]
 pub fn end_line(count: u64) -> ArrayVec<u8, LINE>
     ensures { result.items ≡ end_line count }
 {

@@ -1,9 +1,7 @@
-use Rattle.std.proofs.Common.{◌≡◌, List, ◌∷◌, sym, subst, refl}
-use Rattle.dp_core.specs.declared.event.Event.{Event}
+use Rattle.std.proofs.Common.{List, ◌∷◌, sym, subst, refl}
 use Rattle.dp_core.specs.declared.event.Event.TheVariants.{Wire}
 use Rattle.dp_core.specs.Represents.{Represents}
 use Rattle.dp_script.specs.declared.act.Act.{Act}
-use Rattle.dp_script.specs.TimedActs.{acts_at}
 use Rattle.dp_app.specs.Acting.{events_of_acts}
 use Rattle.dp_script.proofs.Spans.{acts_none}
 use Rattle.dp_app.proofs.acting.begin_cycle.Goals as goal

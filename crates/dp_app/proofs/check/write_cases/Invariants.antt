@@ -1,4 +1,4 @@
-use Rattle.std.proofs.Common.{◌≡◌, ◌≤◌, ◌++◌, codes, take}
+use Rattle.std.proofs.Common.{◌≤◌}
 use Rattle.std.specs.Io.KnownBytes.{Appends}
 use Rattle.dp_app.proofs.CheckTexts.{text_so_far}
 use Rattle.dp_app.proofs.check.write_cases.Given as goal

@@ -1,7 +1,7 @@
 use Rattle.std.proofs.Common.{◌≡◌, [], ◌++◌, ℕ, List, length, refl, subst, rules}
 use Rattle.dp_shell.proofs.Taken.{cut_before}
 use Rattle.dp_app.specs.Check.{cases_text}
-use Rattle.dp_app.specs.Endings.{end_line}
+use Rattle.dp_app.specs.FaultLines.{end_line}
 use Rattle.dp_app.specs.Written.{HasWritten, NoReadFailed}
 use Rattle.dp_app.proofs.CheckTexts.{whole_check}
 use Rattle.dp_app.proofs.check.write_check.Goals as goal

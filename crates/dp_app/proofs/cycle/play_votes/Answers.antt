@@ -1,7 +1,6 @@
-use Rattle.std.proofs.Common.{◌∷◌, List, ap, map, subst, ◌∙◌}
+use Rattle.std.proofs.Common.{List, ap, map, subst, ◌∙◌}
 use Rattle.std.specs.List.{range_with_len}
 use Rattle.dp_core.specs.declared.event.Event.{Event}
-use Rattle.dp_core.specs.declared.event.Event.TheVariants.{Wire}
 use Rattle.dp_core.specs.History.{history}
 use Rattle.dp_core.specs.Represents.{Represents}
 use Rattle.dp_core.specs.Voting.{ballot}

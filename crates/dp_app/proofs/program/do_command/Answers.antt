@@ -1,8 +1,8 @@
-use Rattle.std.proofs.Common.{Some, ap}
+use Rattle.std.proofs.Common.{Some, ap, refl}
 use Rattle.dp_app.specs.declared.words.Command.{Command as Shown}
 use Rattle.dp_app.specs.Outcome.{to_make}
 use Rattle.dp_app.specs.Words.{check, make, replay, shown_command, trial}
-use Rattle.dp_app.proofs.Files.{made_told}
+use Rattle.dp_app.proofs.Files.{alone_told}
 use Rattle.dp_app.proofs.Running.{runs_as, told_runs}
 use Rattle.dp_app.proofs.program.do_command.Goals as goal
 
@@ -21,7 +21,7 @@ returns-in-Make g c =
     runs_as S.files S.apart S.faults K.taken K.faults _ (Some (make number)) c.args.shelf.now c.args.shelf.now c.args.out.now c.make.new.out c.make.result
     (ap (λ (k : Shown). Some (shown_command k)) c.in-Make.is)
     (told_runs S.files S.apart S.faults K.taken K.faults (Some (make number)) c.args.shelf.now c.args.shelf.now c.args.out.now c.make.new.out c.make.result (to_make number)
-    (made_told S.files S.apart S.faults c.args.shelf.now number) c.make.ensures.answers c.make.ensures.written c.make.ensures.write)
+    (alone_told S.files S.apart S.faults c.args.shelf.now (make number) (to_make number) refl refl refl) c.make.ensures.answers c.make.ensures.written c.make.ensures.write)
 
 pub returns-in-Trial : goal.returns-in-Trial
 returns-in-Trial g c =

@@ -1,5 +1,4 @@
-use Rattle.std.proofs.Common.{true, ◌≡◌, ◌∙◌, Err, ap, ℕ, List, [], ◌++◌, None, Ok, Option, Result, refl, subst}
-use Rattle.std.specs.Io.KnownBytes.{Appends}
+use Rattle.std.proofs.Common.{true, ◌≡◌, ◌∙◌, Err, ap, ℕ, List, [], ◌++◌, None, Ok, Result, refl, subst}
 use Rattle.dp_plant.specs.declared.frames.Frame.{Frame}
 use Rattle.dp_shell.specs.Texts.{Files, text_named}
 use Rattle.dp_app.specs.declared.fault.Fault.{Fault}

@@ -1,4 +1,4 @@
-use Rattle.std.proofs.Common.{◌≡◌, ◌++◌, [], ℕ, List, false, subst}
+use Rattle.std.proofs.Common.{◌≡◌, [], ℕ, List, false, subst}
 use Rattle.dp_app.specs.Outcome.{play_made, trial_text}
 use Rattle.dp_app.specs.Scripts.{script_of}
 use Rattle.dp_app.specs.Written.{HasWritten, NoReadFailed}
