@@ -1,0 +1,11 @@
+pub mod Runs
+pub mod Twins
+pub mod Moves
+pub mod Steps
+pub mod SameSlots
+pub mod Lists
+pub mod BoundLemmas
+pub mod GapLemmas
+pub mod Onward
+pub mod Starts
+pub mod Outcomes
