@@ -1,4 +1,4 @@
-use Rattle.std.proofs.Common.{sym, ◌∙◌, arith}
+use Rattle.std.proofs.Common.{refl, sym, ◌∙◌, arith}
 use Rattle.dp_frame.specs.Record.{ended_lines, all_lines}
 use Rattle.dp_frame.specs.Feeds.{feed_of}
 use Rattle.dp_frame.proofs.FinishSteps.{all-done, answer-none, ending-more, ending-other, more-is, answer-more, whole-done, whole-last, judges}
@@ -75,5 +75,6 @@ returns c = record {
   range = rw (c.feed_of.ensures, ← c.self.view_is) c.line-ended.ensures.range;
   closes = rw (c.feed_of.ensures, ← c.self.view_is) c.line-ended.ensures.closes;
   next = λ _. rw (c.feed_of.ensures, ← c.self.view_is) c.line-ended.ensures.next;
+  bytes = rw (← c.self.view_is) refl;
   settings = rw (← c.self.view_is) c.line-ended.ensures.settings;
 }
