@@ -27,7 +27,7 @@ fn shelf_of(
     let mut text = Vec::new(alloc);
     text.extend_from_slice(record)?;
     let mut files = Vec::new(alloc);
-    files.push((String::from(alloc, "r")?, text))?;
+    files.push((String::from_str(alloc, "r")?, text))?;
     let mut failing = Vec::new(alloc);
     failing.push(3)?;
     assert!(rt; step > 0);
