@@ -31,9 +31,6 @@ pub fn edited_text(alloc: Global, lines: &[&str], edits: &str) -> Result<String,
 fn edited_line(number: usize, edits: &str) -> Option<&str> {
     let mut rest = edits;
     for _ in 0..32 {
-        if rest.is_empty() {
-            return None;
-        }
         let (edit, behind) = cut(rest, ';');
         let (at, line) = cut(edit, ' ');
         if at.parse::<usize>().ok() == Some(number) {
