@@ -4,6 +4,7 @@ use dp_test_rows::samples::{S1, text_of};
 use std::process::Abort;
 use std::test::Fail;
 
+mod drift;
 mod hostile;
 mod plants;
 mod readings;

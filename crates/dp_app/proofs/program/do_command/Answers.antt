@@ -1,7 +1,7 @@
 use Rattle.std.proofs.Common.{Some, ap, refl}
 use Rattle.dp_app.specs.declared.words.Command.{Command as Shown}
 use Rattle.dp_app.specs.Outcome.{to_make}
-use Rattle.dp_app.specs.Words.{check, make, replay, shown_command, trial}
+use Rattle.dp_app.specs.Words.{check, drift, make, replay, shown_command, trial}
 use Rattle.dp_app.proofs.Files.{alone_told}
 use Rattle.dp_app.proofs.Running.{runs_as, told_runs}
 use Rattle.dp_app.proofs.program.do_command.Goals as goal
@@ -36,3 +36,10 @@ returns-in-Replay g c =
     let K = g.K.Sink in
     runs_as S.files S.apart S.faults K.taken K.faults _ (Some (replay c.in-Replay.plant.now c.in-Replay.record.now c.in-Replay.script.now)) c.args.shelf.now
     c.replay.new.shelf c.args.out.now c.replay.new.out c.replay.result (ap (λ (k : Shown). Some (shown_command k)) c.in-Replay.is) c.replay.ensures
+
+pub returns-in-Drift : goal.returns-in-Drift
+returns-in-Drift g c =
+    let S = g.F.Shelf in
+    let K = g.K.Sink in
+    runs_as S.files S.apart S.faults K.taken K.faults _ (Some (drift c.in-Drift.plant.now c.in-Drift.record.now c.in-Drift.limit c.in-Drift.cycles)) c.args.shelf.now
+    c.drift.new.shelf c.args.out.now c.drift.new.out c.drift.result (ap (λ (k : Shown). Some (shown_command k)) c.in-Drift.is) c.drift.ensures
