@@ -1,4 +1,5 @@
-//! Hostile use: the sample plant over a record that is cut, over a shelf and a sink that fail, and under floods of lines.
+//! Hostile use: the sample plant over a record that is cut, over a shelf and a sink that fail, and under floods of lines; and the plain plant
+//! over a record and a script that are cut.
 use super::streams::{FIRST, SECOND, THIRD, THREE_CYCLES};
 use super::*;
 
@@ -9,48 +10,86 @@ use super::*;
 /// the last block has more than in the whole record. For the cut records they are those of a program that was written apart from this one.
 #[test]
 fn hurt_replays_are_told(rt: HostRuntime) -> Result<(), Fail> {
-    let rows = ROWS;
+    all_hurt(&rt, rt.alloc(), ROWS)
+}
+
+/// Looks for what each row of a table of hurt replays tells.
+pub fn all_hurt(rt: &impl Abort, alloc: Global, rows: &[&str]) -> Result<(), Fail> {
     for row in rows {
-        let (what, rest) = row.split_once('~').unwrap_or(("", ""));
-        let (first, rest) = rest.split_once('~').unwrap_or(("", ""));
-        let (last, wanted) = rest.split_once('~').unwrap_or(("", ""));
-        let wanted = wanted_text(rt.alloc(), wanted)?;
-        for at in number(first)..number(last).saturating_add(1) {
-            let seen = hurt(&rt, rt.alloc(), what, at)?;
-            assert_eq!(rt; seen.as_str(), wanted.as_str(), "at {at} of {row}");
-        }
+        is_hurt(rt, alloc, row)?;
     }
     Ok(())
 }
 
+/// Such a row, from the first to the last of its numbers.
+fn is_hurt(rt: &impl Abort, alloc: Global, row: &str) -> Result<(), Fail> {
+    let (what, rest) = cut(row, '~');
+    let (first, rest) = cut(rest, '~');
+    let (last, wanted) = cut(rest, '~');
+    let wanted = wanted_of(alloc, what, wanted)?;
+    for at in natural(first)..natural(last).saturating_add(1) {
+        let seen = hurt(rt, alloc, what, at)?;
+        is_same(rt, &seen, &wanted, row);
+    }
+    Ok(())
+}
+
+/// What is wanted of a way to hurt: as it stands for the cut record and script of the plain plant.
+fn wanted_of(alloc: Global, what: &str, wanted: &str) -> Result<String, Fail> {
+    if what == "record" || what == "script" {
+        return Ok(String::from_str(alloc, wanted)?);
+    }
+    wanted_text(alloc, wanted)
+}
+
 /// The code and the text of `CODE~BLOCKS~LINE~ALARMS`.
 fn wanted_text(alloc: Global, row: &str) -> Result<String, Fail> {
-    let (code, rest) = row.split_once('~').unwrap_or(("", ""));
-    let (count, rest) = rest.split_once('~').unwrap_or(("", ""));
-    let (line, alarms) = rest.split_once('~').unwrap_or(("", ""));
-    let (before, between, last) = match number(count) {
-        0 => return Ok(format!(in alloc; "{code}~{line}")?),
-        1 => ("", "", FIRST),
-        2 => (FIRST, "", SECOND),
-        _ => (FIRST, SECOND, THIRD),
-    };
-    let (forces, own) = last.split_once("alarm gyro").unwrap_or(("", ""));
+    let (code, rest) = cut(row, '~');
+    let (count, rest) = cut(rest, '~');
+    let (line, alarms) = cut(rest, '~');
+    let (before, between, last) = blocks_of(count);
+    if last.is_empty() {
+        return Ok(format!(in alloc; "{code}~{line}")?);
+    }
+    let (forces, own) = cut_at(last, "alarm gyro");
     Ok(format!(in alloc; "{code}~{before}{between}{forces}{alarms}alarm gyro{own}{line}")?)
 }
 
-/// What a replay of three cycles tells that is hurt in this way.
-fn hurt(rt: &impl Abort, alloc: Global, what: &str, at: u64) -> Result<String, Fail> {
-    match what {
-        "read" => over_failing(rt, alloc, THREE_CYCLES, at, 0),
-        "write" => over_failing(rt, alloc, THREE_CYCLES, 0, at),
-        _ => {
-            let left = THREE_CYCLES.get(..at as usize).unwrap_or("");
-            over_failing(rt, alloc, left, 0, 0)
-        }
+/// So many of the three blocks, up to three; the last one stands at the end.
+fn blocks_of(count: &str) -> (&str, &str, &str) {
+    match natural(count) {
+        0 => ("", "", ""),
+        1 => ("", "", FIRST),
+        2 => (FIRST, "", SECOND),
+        _ => (FIRST, SECOND, THIRD),
     }
 }
 
-/// What a replay tells over a shelf and a sink that fail at the calls of these numbers.
+/// What a replay tells that is hurt in this way.
+fn hurt(rt: &impl Abort, alloc: Global, what: &str, at: u64) -> Result<String, Fail> {
+    match what {
+        "record" => played(rt, alloc, first_of(CUT_RECORD, at).as_bytes(), b""),
+        "script" => played(rt, alloc, TWO_CYCLES, first_of(CUT_SCRIPT, at).as_bytes()),
+        "cut" => over_failing(rt, alloc, first_of(THREE_CYCLES, at), 0, 0),
+        "read" => over_failing(rt, alloc, THREE_CYCLES, at, 0),
+        "write" => over_failing(rt, alloc, THREE_CYCLES, 0, at),
+        _ => streams::in_steps(rt, alloc, 1, at, THREE_CYCLES),
+    }
+}
+
+/// So many bytes of a text; all of it where it is shorter.
+fn first_of(text: &str, count: u64) -> &str {
+    text.get(..count as usize).unwrap_or(text)
+}
+
+/// A record of three cycles on the plain plant.
+const CUT_RECORD: &str =
+    "0 pos0 L 100 0\r\n\n1000 pos2 $GPGGA,,4807.048,N,01131.000,E,1*59\n2000 pos1 L 9";
+
+/// A script for two cycles.
+const CUT_SCRIPT: &str = "1 say 2 0 9\r\n\n1 usual";
+
+/// What a replay on the sample plant tells over a shelf and a sink that fail at the calls of these numbers.
 fn over_failing(
     rt: &impl Abort,
     alloc: Global,
@@ -58,40 +97,34 @@ fn over_failing(
     read: u64,
     write: u64,
 ) -> Result<String, Fail> {
-    asked_failing(rt, alloc, &REPLAY, record, read, write)
+    asked_failing(rt, alloc, REPLAY, record, [read, write])
 }
 
-/// What these words tell over such a shelf and such a sink.
+/// What the words of a line tell over such a shelf and such a sink.
 fn asked_failing(
     rt: &impl Abort,
     alloc: Global,
-    words: &[&str],
+    line: &str,
     record: &str,
-    read: u64,
-    write: u64,
+    failing: [u64; 2],
 ) -> Result<String, Fail> {
     let plant = text_of(alloc, S1)?;
-    let files = named(alloc, plant.as_bytes(), record.as_bytes(), b"")?;
-    assert!(rt; fits_shelf(&files));
-    let mut shelf = MemoryShelf::new(files, vec![in alloc; read]?);
-    let mut out = MemorySink::new(alloc, vec![in alloc; write]?);
-    let status = run(alloc, words, &mut shelf, &mut out);
-    shown(alloc, status, out.bytes())
+    let files = named(alloc, &plant, record.as_bytes(), b"")?;
+    told_failing(rt, alloc, line, files, failing, usize::MAX)
 }
 
-/// The other commands, and words that are none, where the read or the write of a number fails: `WORDS~READ~WRITE~CODE~TEXT`. Where the code
-/// is 0 this is how the text begins.
+/// The other commands, and words that are none, where the read or the write of a number fails: `WORDS~READ~WRITE~CODE~TEXT`. Where the row
+/// ends with two points this is how the text begins.
 #[test]
 fn failures_of_each_command_are_told(rt: HostRuntime) -> Result<(), Fail> {
-    let alloc = rt.alloc();
     let rows: &[&str] = &[
         "check plant~1~0~3~fault read plant\n",
         "check plant~2~0~3~fault read plant\n",
-        "check plant~3~0~0~accepted\ncase 0\n",
+        "check plant~3~0~0~accepted\ncase 0\n..",
         "check plant~0~1~4~",
         "check plant~0~2~4~accepted\n",
         "check plant~1~1~4~",
-        "make 0~1~0~0~0 pos0 L -477 -254\n",
+        "make 0~1~0~0~0 pos0 L -477 -254\n..",
         "make 0~0~1~4~",
         "trial plant 0~1~0~3~fault read plant\n",
         "trial plant 0~2~0~3~fault read plant\n",
@@ -99,42 +132,65 @@ fn failures_of_each_command_are_told(rt: HostRuntime) -> Result<(), Fail> {
         "play plant~1~0~2~fault usage\n",
         "play plant~0~1~4~",
     ];
+    all_commands_fail(&rt, rt.alloc(), rows)
+}
+
+fn all_commands_fail(rt: &impl Abort, alloc: Global, rows: &[&str]) -> Result<(), Fail> {
     for row in rows {
-        let (line, rest) = row.split_once('~').unwrap_or(("", ""));
-        let (read, rest) = rest.split_once('~').unwrap_or(("", ""));
-        let (write, wanted) = rest.split_once('~').unwrap_or(("", ""));
-        let words = words_in(alloc, line)?;
-        let seen = asked_failing(&rt, alloc, &words, "", number(read), number(write))?;
-        if wanted.starts_with("0~") {
-            assert!(rt; seen.starts_with(wanted), "on {row}");
-        } else {
-            assert_eq!(rt; seen.as_str(), wanted, "on {row}");
-        }
+        command_fails(rt, alloc, row)?;
     }
     Ok(())
+}
+
+/// Such a row.
+fn command_fails(rt: &impl Abort, alloc: Global, row: &str) -> Result<(), Fail> {
+    let (line, rest) = cut(row, '~');
+    let (read, rest) = cut(rest, '~');
+    let (write, wanted) = cut(rest, '~');
+    let failing = [natural(read), natural(write)];
+    let seen = asked_failing(rt, alloc, line, "", failing)?;
+    match wanted.strip_suffix("..") {
+        Some(first) => begins(rt, &seen, first, row),
+        None => is_same(rt, &seen, wanted, row),
+    }
+    Ok(())
+}
+
+/// Looks for how a text begins.
+fn begins(rt: &impl Abort, seen: &str, first: &str, row: &str) {
+    assert!(rt; seen.starts_with(first), "on {row}");
 }
 
 /// So many lines before those of two cycles, which are read in many pieces: `COUNT~LINE~ALARM`, with the alarm that the first block has more
 /// than without them.
 #[test]
 fn floods_are_played(rt: HostRuntime) -> Result<(), Fail> {
-    let alloc = rt.alloc();
     let rows: &[&str] = &[
         "0~~",
         "5000~0 pos0 L 9 9\n~",
         "100000~0 pos0 L 9 9\n~",
         "5000~0 wind2 $WIMWV,045.0,R,05.0,M,A*00\n~alarm damage wind2\n",
     ];
+    all_flood(&rt, rt.alloc(), rows)
+}
+
+fn all_flood(rt: &impl Abort, alloc: Global, rows: &[&str]) -> Result<(), Fail> {
     for row in rows {
-        let (count, rest) = row.split_once('~').unwrap_or(("", ""));
-        let (line, alarm) = rest.split_once('~').unwrap_or(("", ""));
-        let record = flooded(alloc, number(count), line)?;
-        let seen = over_failing(&rt, alloc, record.as_str(), 0, 0)?;
-        let wanted = format!(in alloc;
-            "0~{FLOODED_FORCES}{alarm}alarm gyro\nalarm wind\n{FLOODED_END}"
-        )?;
-        assert_eq!(rt; seen.as_str(), wanted.as_str(), "{row}");
+        floods(rt, alloc, row)?;
     }
+    Ok(())
+}
+
+/// Such a row.
+fn floods(rt: &impl Abort, alloc: Global, row: &str) -> Result<(), Fail> {
+    let (count, rest) = cut(row, '~');
+    let (line, alarm) = cut(rest, '~');
+    let record = flooded(alloc, natural(count), line)?;
+    let seen = over_failing(rt, alloc, &record, 0, 0)?;
+    let wanted = format!(in alloc;
+        "0~{FLOODED_FORCES}{alarm}alarm gyro\nalarm wind\n{FLOODED_END}"
+    )?;
+    is_same(rt, &seen, &wanted, row);
     Ok(())
 }
 

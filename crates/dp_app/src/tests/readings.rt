@@ -2,7 +2,7 @@
 //!
 //! A row is `script~record~code~text`, as for whole replays. In most rows the
 //! record's last line brings nothing, and its cycle shows the force that the lines before it ask for.
-use super::plays;
+use super::all_play;
 use std::test::Fail;
 
 /// Position fixes.
@@ -46,10 +46,7 @@ fn fixes_are_read(rt: HostRuntime) -> Result<(), Fail> {
         "~0 pos0 $GPGGA,123519,4807.048,N,01131.000,E,1*54\n1000 pos0 $GPGGA,,4807.028,N,01131.000,E*42\n2000 pos0 $GPGGA*56\n3000 pos0 x\n\
          ~0~cycle 0 LLL\nt0 F 0 0 0 0\nt1 F 0 0 0 0\nt2 F 0 0 0 0\ncycle 1 LLL\nt0 F -1266024 -1266024 -1266024 -1266024\nt1 F 0 0 0 0\nt2 F 0 0 0 0\ncycle 2 LLL\nt0 F -2433478 -2433478 -2433478 -2433478\nt1 F 0 0 0 0\nt2 F 0 0 0 0\ncycle 3 LLL\nt0 F -3506904 -3506904 -3506904 -3506904\nt1 F 0 0 0 0\nt2 F 0 0 0 0\nend 4\n",
     ];
-    for row in rows {
-        plays(&rt, rt.alloc(), row)?;
-    }
-    Ok(())
+    all_play(&rt, rt.alloc(), rows)
 }
 
 /// Sentences and their damage.
@@ -79,10 +76,7 @@ fn sentences_are_judged(rt: HostRuntime) -> Result<(), Fail> {
          ~0 pos0 $GPGGA,123519,4807.048,N,01131.000,E,1,08,0.9,545.4,M,46.9,M,,*40\r\n\r\n1000 pos0 L 0 0\r\n\
          ~0~cycle 0 LLL\nt0 F 0 0 0 0\nt1 F 0 0 0 0\nt2 F 0 0 0 0\ncycle 1 LLL\nt0 F -1266024 -1266024 -1266024 -1266024\nt1 F 0 0 0 0\nt2 F 0 0 0 0\nend 2\n",
     ];
-    for row in rows {
-        plays(&rt, rt.alloc(), row)?;
-    }
-    Ok(())
+    all_play(&rt, rt.alloc(), rows)
 }
 
 /// Plain places, and what comes on other wires.
@@ -108,10 +102,7 @@ fn plain_lines_are_read(rt: HostRuntime) -> Result<(), Fail> {
         "~0 pos0 L 5 5\n1000 pos0 L 5 5\r\
          ~0~cycle 0 LLL\nt0 F 0 0 0 0\nt1 F 0 0 0 0\nt2 F 0 0 0 0\ncycle 1 LLL\nt0 F -342 -342 -342 -342\nt1 F -342 -342 -342 -342\nt2 F 0 0 0 0\nend 2\n",
     ];
-    for row in rows {
-        plays(&rt, rt.alloc(), row)?;
-    }
-    Ok(())
+    all_play(&rt, rt.alloc(), rows)
 }
 
 /// Readings of several wires, and cycles without any.
@@ -150,8 +141,5 @@ fn readings_are_fused(rt: HostRuntime) -> Result<(), Fail> {
         "~0 pos0 L 000000000000001000 -0\r\n\r\n1000 pos0 L 0 0\r\n\
          ~0~cycle 0 LLL\nt0 F 0 0 0 0\nt1 F 0 0 0 0\nt2 F 0 0 0 0\ncycle 1 LLL\nt0 F -68360 -68360 -68360 -68360\nt1 F 0 0 0 0\nt2 F 0 0 0 0\nend 2\n",
     ];
-    for row in rows {
-        plays(&rt, rt.alloc(), row)?;
-    }
-    Ok(())
+    all_play(&rt, rt.alloc(), rows)
 }

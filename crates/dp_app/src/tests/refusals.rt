@@ -1,7 +1,7 @@
 //! Records and scripts that are refused at a line.
 //!
 //! A row is `script~record~code~text`, as for whole replays.
-use super::plays;
+use super::all_play;
 use std::test::Fail;
 
 /// The first faulty line of a script, and its kind.
@@ -81,10 +81,7 @@ fn scripts_are_judged(rt: HostRuntime) -> Result<(), Fail> {
          ~x\n\
          ~8~fault script 1 verb\n",
     ];
-    for row in rows {
-        plays(&rt, rt.alloc(), row)?;
-    }
-    Ok(())
+    all_play(&rt, rt.alloc(), rows)
 }
 
 /// The first faulty line of a record and its kind, after the cycles before it.
@@ -149,8 +146,5 @@ fn records_are_judged(rt: HostRuntime) -> Result<(), Fail> {
         "~0 pos0 L 9 9\n0 pos1 L 9 7777777777777777777777777777777777777777777777777777777777777777777777777777777777777777777777777777777777777777777777777777777777777777777777777777777777777777777777777777777777777\r\n1000 pos0 L 0 0\n\
          ~0~cycle 0 LLL\nt0 F 0 0 0 0\nt1 F 0 0 0 0\nt2 F 0 0 0 0\ncycle 1 LLL\nt0 F -615 -615 -615 -615\nt1 F -615 -615 -615 -615\nt2 F 0 0 0 0\nend 2\n",
     ];
-    for row in rows {
-        plays(&rt, rt.alloc(), row)?;
-    }
-    Ok(())
+    all_play(&rt, rt.alloc(), rows)
 }

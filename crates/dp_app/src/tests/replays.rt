@@ -1,7 +1,7 @@
 //! Whole replays: what each act of a script does.
 //!
 //! A row is `script~record~code~text`; code and text are those of a program that was written apart from this one.
-use super::plays;
+use super::all_play;
 use std::test::Fail;
 
 /// Runs and orders, alone and in the usual order.
@@ -59,10 +59,7 @@ fn usual_acts_are_played(rt: HostRuntime) -> Result<(), Fail> {
          ~0 pos0 L 1000 0\n0 pos1 L 1000 0\n0 pos2 L 1000 0\n1000 pos0 L 1000 0\n1000 pos1 L 1000 0\n1000 pos2 L 1000 0\n2000 pos0 L 1000 0\n2000 pos1 L 1000 0\n2000 pos2 L 1000 0\
          ~0~cycle 0 LLL\nt0 F 0 0 0 0\nt1 F 0 0 0 0\nt2 F 0 0 0 0\ncycle 1 OLL\nt0 F -68360 - -68360 -68360\nt1 F 0 - 0 0\nt2 F 0 - 0 0\ncycle 2 OLL\nt0 F -131397 - -131397 -131397\nt1 F 0 - 0 0\nt2 F 0 - 0 0\nend 3\n",
     ];
-    for row in rows {
-        plays(&rt, rt.alloc(), row)?;
-    }
-    Ok(())
+    all_play(&rt, rt.alloc(), rows)
 }
 
 /// Cycles without two equal ballots: the force is held, and then zero.
@@ -82,10 +79,7 @@ fn forces_are_held(rt: HostRuntime) -> Result<(), Fail> {
          ~0 pos0 L 1000 0\n1000 pos0 L 1000 0\n2000 pos0 L 1000 0\n3000 pos0 L 1000 0\n4000 pos0 L 1000 0\n5000 pos0 L 1000 0\n6000 pos0 L 1000 0\n7000 pos0 L 1000 0\n8000 pos0 L 1000 0\n9000 pos0 L 1000 0\n10000 pos0 L 1000 0\n11000 pos0 L 1000 0\n\
          ~0~cycle 0 LLL\nt0 F 0 0 0 0\nt1 F 0 0 0 0\nt2 F 0 0 0 0\ncycle 1 LLL\nt0 F -68360 -68360 -68360 -68360\nt1 F 0 0 0 0\nt2 F 0 0 0 0\ncycle 2 LLL\nt0 H -68360 - - -\nt1 H 0 - - -\nt2 H 0 - - -\ncycle 3 LLL\nt0 H -68360 - - -\nt1 H 0 - - -\nt2 H 0 - - -\ncycle 4 LLL\nt0 H -68360 - - -\nt1 H 0 - - -\nt2 H 0 - - -\ncycle 5 LLL\nt0 F -291005 -291005 -291005 -291005\nt1 F 0 0 0 0\nt2 F 0 0 0 0\ncycle 6 LLL\nt0 H -291005 - - -\nt1 H 0 - - -\nt2 H 0 - - -\ncycle 7 LLL\nt0 H -291005 - - -\nt1 H 0 - - -\nt2 H 0 - - -\ncycle 8 LLL\nt0 H -291005 - - -\nt1 H 0 - - -\nt2 H 0 - - -\ncycle 9 LLL\nt0 H -291005 - - -\nt1 H 0 - - -\nt2 H 0 - - -\ncycle 10 LLL\nt0 H -291005 - - -\nt1 H 0 - - -\nt2 H 0 - - -\ncycle 11 LLL\nt0 Z 0 - - -\nt1 Z 0 - - -\nt2 Z 0 - - -\nend 12\n",
     ];
-    for row in rows {
-        plays(&rt, rt.alloc(), row)?;
-    }
-    Ok(())
+    all_play(&rt, rt.alloc(), rows)
 }
 
 /// Computers that say what they were not asked to.
@@ -117,10 +111,7 @@ fn lies_are_outvoted(rt: HostRuntime) -> Result<(), Fail> {
          ~0 pos0 L 1000 0\n0 pos1 L 1000 0\n0 pos2 L 1000 0\n1000 pos0 L 1000 0\n1000 pos1 L 1000 0\n1000 pos2 L 1000 0\n2000 pos0 L 1000 0\n2000 pos1 L 1000 0\n2000 pos2 L 1000 0\n\
          ~0~cycle 0 LLL\nt0 F 0 0 0 0\nt1 F 0 0 0 0\nt2 F 0 0 0 0\ncycle 1 LLO\nt0 F -68360 -68360 - -68360\nt1 H 0 0 - -\nt2 H 0 0 - -\ncycle 2 LLO\nt0 H -68360 -131397 - -\nt1 H 0 0 - -\nt2 H 0 0 - -\nend 3\n",
     ];
-    for row in rows {
-        plays(&rt, rt.alloc(), row)?;
-    }
-    Ok(())
+    all_play(&rt, rt.alloc(), rows)
 }
 
 /// Computers that reckon from a wrong place.
@@ -156,10 +147,7 @@ fn skewed_computers_are_played(rt: HostRuntime) -> Result<(), Fail> {
          ~0 pos0 L 1000 0\n0 pos1 L 1000 0\n0 pos2 L 1000 0\n1000 pos0 L 1000 0\n1000 pos1 L 1000 0\n1000 pos2 L 1000 0\n2000 pos0 L 1000 0\n2000 pos1 L 1000 0\n2000 pos2 L 1000 0\n\
          ~0~cycle 0 LLL\nt0 F 0 0 0 0\nt1 F 0 0 0 0\nt2 F 0 0 0 0\ncycle 1 LLL\nt0 F -68360 -68360 -68360 0\nt1 F 0 0 0 -1\nt2 F 0 0 0 0\ncycle 2 LLL\nt0 F -131397 -131397 -131397 -68360\nt1 F 0 0 0 1\nt2 F 0 0 0 0\nend 3\n",
     ];
-    for row in rows {
-        plays(&rt, rt.alloc(), row)?;
-    }
-    Ok(())
+    all_play(&rt, rt.alloc(), rows)
 }
 
 /// Computers that were stopped.
@@ -179,10 +167,7 @@ fn stopped_computers_are_played(rt: HostRuntime) -> Result<(), Fail> {
          ~0 pos0 L 500 0\n18000 pos0 L 500 0\n\
          ~0~cycle 0 LLO\nt0 F 0 0 0 -\nt1 F 0 0 0 -\nt2 F 0 0 0 -\ncycle 1 LLO\nt0 F -34180 -34180 -34180 -\nt1 F 0 0 0 -\nt2 F 0 0 0 -\ncycle 2 LLO\nt0 F -65698 -65698 -65698 -\nt1 F 0 0 0 -\nt2 F 0 0 0 -\ncycle 3 LLO\nt0 F -94678 -94678 -94678 -\nt1 F 0 0 0 -\nt2 F 0 0 0 -\ncycle 4 LLO\nt0 F -121240 -121240 -121240 -\nt1 F 0 0 0 -\nt2 F 0 0 0 -\ncycle 5 LLO\nt0 F -121240 -121240 -121240 -\nt1 F 0 0 0 -\nt2 F 0 0 0 -\ncycle 6 LLO\nt0 F -121240 -121240 -121240 -\nt1 F 0 0 0 -\nt2 F 0 0 0 -\ncycle 7 LLO\nt0 F -121240 -121240 -121240 -\nt1 F 0 0 0 -\nt2 F 0 0 0 -\ncycle 8 LLO\nt0 F -121240 -121240 -121240 -\nt1 F 0 0 0 -\nt2 F 0 0 0 -\ncycle 9 LLO\nt0 F -121240 -121240 -121240 -\nt1 F 0 0 0 -\nt2 F 0 0 0 -\ncycle 10 LLO\nt0 F -121240 -121240 -121240 -\nt1 F 0 0 0 -\nt2 F 0 0 0 -\ncycle 11 LLO\nt0 F -121240 -121240 -121240 -\nt1 F 0 0 0 -\nt2 F 0 0 0 -\ncycle 12 LLO\nt0 F -121240 -121240 -121240 -\nt1 F 0 0 0 -\nt2 F 0 0 0 -\ncycle 13 LLO\nt0 F -121240 -121240 -121240 -\nt1 F 0 0 0 -\nt2 F 0 0 0 -\ncycle 14 LLO\nt0 F -121240 -121240 -121240 -\nt1 F 0 0 0 -\nt2 F 0 0 0 -\ncycle 15 LLO\nt0 F -121240 -121240 -121240 -\nt1 F 0 0 0 -\nt2 F 0 0 0 -\ncycle 16 LLO\nt0 F -121240 -121240 -121240 -\nt1 F 0 0 0 -\nt2 F 0 0 0 -\ncycle 17 LLO\nt0 F -121240 -121240 -121240 -\nt1 F 0 0 0 -\nt2 F 0 0 0 -\ncycle 18 LLO\nt0 F -121240 -121240 -121240 -\nt1 F 0 0 0 -\nt2 F 0 0 0 -\nend 19\n",
     ];
-    for row in rows {
-        plays(&rt, rt.alloc(), row)?;
-    }
-    Ok(())
+    all_play(&rt, rt.alloc(), rows)
 }
 
 /// Computers that more than 16 frames wait for.
@@ -206,10 +191,7 @@ fn overrun_computers_are_played(rt: HostRuntime) -> Result<(), Fail> {
          ~0 pos0 L 1000 -500\n19000 pos0 L 1000 -500\n\
          ~0~cycle 0 LLL\nt0 F 0 0 0 -\nt1 F 0 0 0 -\nt2 F 0 0 0 -\ncycle 1 LLL\nt0 F -68360 -68360 -68360 -\nt1 F 34180 34180 34180 -\nt2 F 0 0 0 -\ncycle 2 LLL\nt0 F -131397 -131397 -131397 -\nt1 F 65699 65699 65699 -\nt2 F 0 0 0 -\ncycle 3 LLL\nt0 F -189356 -189356 -189356 -\nt1 F 94680 94680 94680 -\nt2 F 0 0 0 -\ncycle 4 LLL\nt0 F -242480 -242480 -242480 -\nt1 F 121243 121243 121243 -\nt2 F 0 0 0 -\ncycle 5 LLL\nt0 F -242480 -242480 -242480 -\nt1 F 121243 121243 121243 -\nt2 F 0 0 0 -\ncycle 6 LLL\nt0 F -242480 -242480 -242480 -\nt1 F 121243 121243 121243 -\nt2 F 0 0 0 -\ncycle 7 LLL\nt0 F -242480 -242480 -242480 -\nt1 F 121243 121243 121243 -\nt2 F 0 0 0 -\ncycle 8 LLL\nt0 F -242480 -242480 -242480 -\nt1 F 121243 121243 121243 -\nt2 F 0 0 0 -\ncycle 9 LLL\nt0 F -242480 -242480 -242480 -\nt1 F 121243 121243 121243 -\nt2 F 0 0 0 -\ncycle 10 LLL\nt0 F -242480 -242480 -242480 -\nt1 F 121243 121243 121243 -\nt2 F 0 0 0 -\ncycle 11 LLL\nt0 F -242480 -242480 -242480 -\nt1 F 121243 121243 121243 -\nt2 F 0 0 0 -\ncycle 12 LLL\nt0 F -242480 -242480 -242480 -\nt1 F 121243 121243 121243 -\nt2 F 0 0 0 -\ncycle 13 LLL\nt0 F -242480 -242480 -242480 -\nt1 F 121243 121243 121243 -\nt2 F 0 0 0 -\ncycle 14 LLL\nt0 F -242480 -242480 -242480 -\nt1 F 121243 121243 121243 -\nt2 F 0 0 0 -\ncycle 15 LLL\nt0 F -242480 -242480 -242480 -\nt1 F 121243 121243 121243 -\nt2 F 0 0 0 -\ncycle 16 LLA\nt0 F -242480 -242480 -242480 -\nt1 F 121243 121243 121243 -\nt2 F 0 0 0 -\ncycle 17 LLA\nt0 F -242480 -242480 -242480 -\nt1 F 121243 121243 121243 -\nt2 F 0 0 0 -\ncycle 18 LLO\nt0 F -242480 -242480 -242480 -\nt1 F 121243 121243 121243 -\nt2 F 0 0 0 -\ncycle 19 LLO\nt0 F -242480 -242480 -242480 -\nt1 F 121243 121243 121243 -\nt2 F 0 0 0 -\nend 20\n",
     ];
-    for row in rows {
-        plays(&rt, rt.alloc(), row)?;
-    }
-    Ok(())
+    all_play(&rt, rt.alloc(), rows)
 }
 
 /// States that are told, lied about and taken, and new software: how a computer comes back.
@@ -249,10 +231,7 @@ fn exchanged_states_are_played(rt: HostRuntime) -> Result<(), Fail> {
          ~0 pos0 L 1000 0\n0 pos1 L 1000 0\n0 pos2 L 1000 0\n1000 pos0 L 1000 0\n1000 pos1 L 1000 0\n1000 pos2 L 1000 0\n2000 pos0 L 1000 0\n2000 pos1 L 1000 0\n2000 pos2 L 1000 0\n\
          ~0~cycle 0 LLL\nt0 F 0 0 0 0\nt1 F 0 0 0 0\nt2 F 0 0 0 0\ncycle 1 LLL\nt0 F -68360 -68360 -68360 -\nt1 F 0 0 0 -\nt2 F 0 0 0 -\ncycle 2 LLL\nt0 F -131397 -131397 -131397 -156250\nt1 F 0 0 0 0\nt2 F 0 0 0 0\nend 3\n",
     ];
-    for row in rows {
-        plays(&rt, rt.alloc(), row)?;
-    }
-    Ok(())
+    all_play(&rt, rt.alloc(), rows)
 }
 
 /// A liar of each kind, and two one after another: every ballot is fresh, with the reference run's force.
@@ -296,8 +275,5 @@ fn liars_of_each_kind_are_outvoted(rt: HostRuntime) -> Result<(), Fail> {
          ~0 pos0 L 1000 0\n0 pos1 L 1000 0\n0 pos2 L 1000 0\n1000 pos0 L 1000 0\n1000 pos1 L 1000 0\n1000 pos2 L 1000 0\n2000 pos0 L 1000 0\n2000 pos1 L 1000 0\n2000 pos2 L 1000 0\n3000 pos0 L 1000 0\n3000 pos1 L 1000 0\n3000 pos2 L 1000 0\n4000 pos0 L 1000 0\n4000 pos1 L 1000 0\n4000 pos2 L 1000 0\n5000 pos0 L 1000 0\n5000 pos1 L 1000 0\n5000 pos2 L 1000 0\n6000 pos0 L 1000 0\n6000 pos1 L 1000 0\n6000 pos2 L 1000 0\n7000 pos0 L 1000 0\n7000 pos1 L 1000 0\n7000 pos2 L 1000 0\n\
          ~0~cycle 0 LLL\nt0 F 0 0 0 0\nt1 F 0 0 0 0\nt2 F 0 0 0 0\ncycle 1 LLL\nt0 F -68360 -68360 -68360 -68360\nt1 F 0 0 0 0\nt2 F 0 0 0 0\ncycle 2 LLL\nt0 F -131397 -131397 -131397 -131397\nt1 F 0 0 0 0\nt2 F 0 0 0 0\ncycle 3 LLL\nt0 F -189356 -189356 123 -189356\nt1 F 0 0 -123 0\nt2 F 0 0 123 0\ncycle 4 LLL\nt0 F -242480 -242480 - -242480\nt1 F 0 0 - 0\nt2 F 0 0 - 0\ncycle 5 LLL\nt0 F -291005 -291005 -291005 156249\nt1 F 0 0 0 -156250\nt2 F 0 0 0 0\ncycle 6 LLL\nt0 F -335163 -335163 -335163 15624\nt1 F 0 0 0 -83984\nt2 F 0 0 0 0\ncycle 7 LLL\nt0 F -375182 -375182 -375182 -114279\nt1 F 0 0 0 -17118\nt2 F 0 0 0 0\nend 8\n",
     ];
-    for row in rows {
-        plays(&rt, rt.alloc(), row)?;
-    }
-    Ok(())
+    all_play(&rt, rt.alloc(), rows)
 }

@@ -5,7 +5,7 @@ ghost use Rattle.std.specs.Io.KnownBytes.{WriteAppends};
 ghost use Rattle.dp_shell.specs.{HasCause, HasWriteCause, NoneFalls, OthersStay, ReadsPart, untold};
 
 use super::*;
-use dp_shell::{Failed, PlainShelf, PlainSink, Shelf, Sink, Trouble};
+use dp_shell::{Failed, PlainShelf, PlainSink, Trouble};
 use std::cell::Cell;
 
 /// Three cycles at one place. Their lines end at the offsets 48, 105 and 162.
@@ -32,7 +32,7 @@ const FALLING_TIME: &str =
     "0 pos0 L 0 0\n1000 pos0 L 0 0\n2000 pos0 L 0 0\n3000 pos0 L 0 0\n4000 pos0 L 0 0\n5000 pos0 L 0 0\n4000 pos0 L 0 0\n";
 
 /// Replays a record that is read at most `step` bytes a call, where call `call` of the record fails, the first being call 1.
-fn in_steps(
+pub fn in_steps(
     rt: &impl Abort,
     alloc: Global,
     step: usize,
@@ -43,13 +43,10 @@ fn in_steps(
     assert!(rt; step > 0 && call < 1000);
     let of_plant = plant.len().div_ceil(step) as u64 + 1;
     let of_script = 1;
-    let files = named(alloc, plant.as_bytes(), record.as_bytes(), b"")?;
-    assert!(rt; fits_shelf(&files) && of_plant < 1_000_000);
-    let failing = vec![in alloc; of_plant + of_script + call]?;
-    let mut shelf = MemoryShelf::in_steps(files, failing, step);
-    let mut out = MemorySink::new(alloc, Vec::new(alloc));
-    let status = run(alloc, &REPLAY, &mut shelf, &mut out);
-    shown(alloc, status, out.bytes())
+    assert!(rt; of_plant < 1_000_000);
+    let files = named(alloc, &plant, record.as_bytes(), b"")?;
+    let failing = [of_plant + of_script + call, 0];
+    told_failing(rt, alloc, REPLAY, files, failing, step)
 }
 
 /// Files and a sink that never fail.
@@ -57,54 +54,53 @@ fn in_steps(
 fn plain_files_are_played(rt: HostRuntime) -> Result<(), Fail> {
     let alloc = rt.alloc();
     let plant = text_of(alloc, S1)?;
-    let files = named(alloc, plant.as_bytes(), THREE_CYCLES.as_bytes(), b"")?;
+    let files = named(alloc, &plant, THREE_CYCLES.as_bytes(), b"")?;
     assert!(rt; fits_shelf(&files));
     let mut out = PlainSink::new(alloc);
-    let status = run(alloc, &REPLAY, &mut PlainShelf::new(files), &mut out);
-    let seen = shown(alloc, status, out.bytes())?;
-    assert_eq!(rt; seen.as_str(), all_blocks(alloc)?.as_str());
+    let words = words_in(alloc, REPLAY)?;
+    let code = code_over(alloc, &words, &mut PlainShelf::new(files), &mut out);
+    is_same(
+        &rt,
+        &shown(alloc, code, out.bytes())?,
+        &all_blocks(alloc)?,
+        "plain files",
+    );
     Ok(())
 }
 
 /// The size of a piece changes nothing.
 #[test]
 fn steps_change_nothing(rt: HostRuntime) -> Result<(), Fail> {
-    let alloc = rt.alloc();
+    is_same_in_steps(&rt, rt.alloc(), THREE_CYCLES)?;
+    is_same_in_steps(&rt, rt.alloc(), FALLING_TIME)
+}
+
+/// A record that is read 1, 7 and 4096 bytes a call.
+fn is_same_in_steps(rt: &impl Abort, alloc: Global, record: &str) -> Result<(), Fail> {
     let plant = text_of(alloc, S1)?;
-    for record in [THREE_CYCLES, FALLING_TIME] {
-        let files = named(alloc, plant.as_bytes(), record.as_bytes(), b"")?;
-        let wanted = told(&rt, alloc, &REPLAY, files)?;
-        for step in [1, 7, 4096] {
-            let seen = in_steps(&rt, alloc, step, 999, record)?;
-            assert_eq!(rt; seen.as_str(), wanted.as_str(), "in steps of {step}");
-        }
+    let files = named(alloc, &plant, record.as_bytes(), b"")?;
+    let wanted = told(rt, alloc, REPLAY, files)?;
+    let steps: &[usize] = &[1, 7, 4096];
+    for step in steps {
+        let seen = in_steps(rt, alloc, *step, 999, record)?;
+        is_same(rt, &seen, &wanted, record);
     }
     Ok(())
 }
 
-/// A read of the record fails after so many calls of a byte each: a text of L bytes takes L + 1 of them.
+/// A read of the record fails after so many calls of a byte each: a text of L bytes takes L + 1 of them. A row is one of `hostile`.
 #[test]
 fn failed_reads_follow_the_blocks(rt: HostRuntime) -> Result<(), Fail> {
-    let alloc = rt.alloc();
-    let rows = [
-        (1, "3~fault read record\n", 0),
-        (67, "3~fault read record\n", 0),
-        (68, "3~fault read record\n", 1),
-        (124, "3~fault read record\n", 1),
-        (125, "3~fault read record\n", 2),
-        (163, "3~fault read record\n", 2),
-        (164, "0~end 3\n", 3),
+    let rows: &[&str] = &[
+        "byte~1~1~3~0~fault read record\n~",
+        "byte~67~67~3~0~fault read record\n~",
+        "byte~68~68~3~1~fault read record\n~",
+        "byte~124~124~3~1~fault read record\n~",
+        "byte~125~125~3~2~fault read record\n~",
+        "byte~163~163~3~2~fault read record\n~",
+        "byte~164~164~0~3~end 3\n~",
     ];
-    for (call, wanted, blocks) in rows {
-        let (code, last) = wanted.split_once('~').unwrap_or(("", ""));
-        let first = if blocks > 0 { FIRST } else { "" };
-        let second = if blocks > 1 { SECOND } else { "" };
-        let third = if blocks > 2 { THIRD } else { "" };
-        let wanted = format!(in alloc; "{code}~{first}{second}{third}{last}")?;
-        let seen = in_steps(&rt, alloc, 1, call, THREE_CYCLES)?;
-        assert_eq!(rt; seen.as_str(), wanted.as_str(), "call {call}");
-    }
-    Ok(())
+    hostile::all_hurt(&rt, rt.alloc(), rows)
 }
 
 /// A shelf that gives a byte a call, and fails where the record is read past an offset before so many bytes were written.
@@ -185,9 +181,16 @@ impl Sink for Telling<'_> {
 /// Each block is written before the record is read past the line that ends its cycle.
 #[test]
 fn blocks_are_written_at_once(rt: HostRuntime) -> Result<(), Fail> {
-    let alloc = rt.alloc();
+    let seen = told_waiting(&rt, rt.alloc())?;
+    is_same(&rt, &seen, &all_blocks(rt.alloc())?, "a byte a call");
+    Ok(())
+}
+
+/// What a replay tells over such a shelf and such a sink.
+fn told_waiting(rt: &impl Abort, alloc: Global) -> Result<String, Fail> {
     let plant = text_of(alloc, S1)?;
-    let files = named(alloc, plant.as_bytes(), THREE_CYCLES.as_bytes(), b"")?;
+    let files = named(alloc, &plant, THREE_CYCLES.as_bytes(), b"")?;
+    let words = words_in(alloc, REPLAY)?;
     assert!(rt; fits_shelf(&files));
     let taken = Cell::new(0);
     let mut shelf = Waiting {
@@ -199,8 +202,6 @@ fn blocks_are_written_at_once(rt: HostRuntime) -> Result<(), Fail> {
         bytes: PlainSink::new(alloc),
         taken: &taken,
     };
-    let status = run(alloc, &REPLAY, &mut shelf, &mut out);
-    let seen = shown(alloc, status, out.bytes.bytes())?;
-    assert_eq!(rt; seen.as_str(), all_blocks(alloc)?.as_str());
-    Ok(())
+    let code = code_over(alloc, &words, &mut shelf, &mut out);
+    shown(alloc, code, out.bytes.bytes())
 }

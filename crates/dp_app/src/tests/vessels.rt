@@ -1,30 +1,15 @@
 //! Other vessels than the sample ones: start, setpoint, levers, cycle, wind, wave filter, thrusters and groups of their own. The
 //! answers are a separate program's.
-use super::{REPLAY, named, told};
+use super::{REPLAY, cut_at, is_same, named, told};
 use dp_test_rows::samples::{S1, S2, text_of};
 use dp_test_rows::{cut, edited_text};
 use std::alloc::Global;
 use std::process::Abort;
 use std::test::Fail;
 
-/// Plays a record on a plant, and compares what is told.
-fn check(
-    rt: &impl Abort,
-    alloc: Global,
-    plant: &str,
-    record: &str,
-    wanted: &str,
-) -> Result<(), Fail> {
-    let files = named(alloc, plant.as_bytes(), record.as_bytes(), b"")?;
-    let seen = told(rt, alloc, &REPLAY, files)?;
-    assert_eq!(rt; seen.as_str(), wanted, "on {record}");
-    Ok(())
-}
-
 /// Sample plants with lines edited: the sample, `~`, the edits, `~`, the record, `~`, the code, `~` and the text.
 #[test]
 fn other_plants_are_played(rt: HostRuntime) -> Result<(), Fail> {
-    let alloc = rt.alloc();
     let rows: &[&str] = &[
         // start is not the setpoint, and its heading is the base of headings
         "S1~4 start = [1500, -700, 4500]~\
@@ -67,14 +52,37 @@ fn other_plants_are_played(rt: HostRuntime) -> Result<(), Fail> {
          0 pos0 L 1000 0\n0 pos1 L 1000 0\n0 pos2 L 1000 0\n0 gyro0 $HEHDT,0.0,T*2F\n1000 pos0 L 1400 -300\n1000 pos1 L 1400 -300\n1000 pos2 L 1400 -300\n1000 gyro0 $HEHDT,0.0,T*2F\n2000 pos0 L 600 500\n2000 pos1 L 600 500\n2000 pos2 L 600 500\n2000 gyro0 $HEHDT,0.0,T*2F\n3000 pos0 L 1200 0\n3000 pos1 L 1200 0\n3000 pos2 L 1200 0\n3000 gyro0 $HEHDT,0.0,T*2F\n~\
          0~cycle 0 LLL\nt0 F 0 0 0 0\nt1 F 0 0 0 0\nt2 F 0 0 0 0\nt3 F 0 0 0 0\nt4 F 0 0 0 0\nt5 F 0 0 0 0\nalarm wind\ncycle 1 LLL\nt0 F -171 -171 -171 -171\nt1 F -171 -171 -171 -171\nt2 F 0 0 0 0\nt3 F 0 0 0 0\nt4 F 0 0 0 0\nt5 F 0 0 0 0\nalarm wind\ncycle 2 LLL\nt0 F -372 -372 -372 -372\nt1 F -372 -372 -372 -372\nt2 F 41 41 41 41\nt3 F 41 41 41 41\nt4 F 41 41 41 41\nt5 F 41 41 41 41\nalarm wind\ncycle 3 LLL\nt0 F -391 -391 -391 -391\nt1 F -391 -391 -391 -391\nt2 F -37 -37 -37 -37\nt3 F -37 -37 -37 -37\nt4 F -37 -37 -37 -37\nt5 F -37 -37 -37 -37\nalarm wind\nend 4\n",
     ];
+    all_vessels_play(&rt, rt.alloc(), rows)
+}
+
+fn all_vessels_play(rt: &impl Abort, alloc: Global, rows: &[&str]) -> Result<(), Fail> {
     for row in rows {
-        let (base, rest) = cut(row, '~');
-        let (edits, rest) = cut(rest, '~');
-        let (record, wanted) = cut(rest, '~');
-        let sample = if base == "S2" { S2 } else { S1 };
-        let plant = edited_text(alloc, sample, edits)?;
-        check(&rt, alloc, &plant, record, wanted)?;
+        vessel_plays(rt, alloc, row)?;
     }
+    Ok(())
+}
+
+/// Such a row.
+fn vessel_plays(rt: &impl Abort, alloc: Global, row: &str) -> Result<(), Fail> {
+    let (base, rest) = cut(row, '~');
+    let (edits, rest) = cut(rest, '~');
+    let (record, wanted) = cut(rest, '~');
+    let sample = if base == "S2" { S2 } else { S1 };
+    let plant = edited_text(alloc, sample, edits)?;
+    is_played(rt, alloc, &plant, record, wanted)
+}
+
+/// Plays a record on a plant, and looks for what is told.
+fn is_played(
+    rt: &impl Abort,
+    alloc: Global,
+    plant: &str,
+    record: &str,
+    wanted: &str,
+) -> Result<(), Fail> {
+    let files = named(alloc, plant, record.as_bytes(), b"")?;
+    let seen = told(rt, alloc, REPLAY, files)?;
+    is_same(rt, &seen, wanted, record);
     Ok(())
 }
 
@@ -82,17 +90,19 @@ fn other_plants_are_played(rt: HostRuntime) -> Result<(), Fail> {
 /// directions of all kinds. A group from the third on is lost.
 #[test]
 fn a_vessel_with_twelve_thrusters_is_played(rt: HostRuntime) -> Result<(), Fail> {
-    let alloc = rt.alloc();
+    let plant = twelve_thrusters(rt.alloc())?;
+    is_played(&rt, rt.alloc(), &plant, WATCH, TOLD)
+}
+
+/// The file of its plant.
+fn twelve_thrusters(alloc: Global) -> Result<String, Fail> {
     let sample = text_of(alloc, S1)?;
-    let (vessel, rest) = sample.split_once("groups = ").unwrap_or(("", ""));
-    let (_, rest) = rest.split_once("[[ref]]").unwrap_or(("", ""));
-    let (sensors, rest) = rest.split_once("[[thruster]]").unwrap_or(("", ""));
-    let (_, gains) = rest.split_once("[gains]").unwrap_or(("", ""));
-    let plant = text_of(
-        alloc,
-        &[vessel, MASSES, "[[ref]]", sensors, TWELVE, "[gains]", gains],
-    )?;
-    check(&rt, alloc, &plant, WATCH, TOLD)
+    let (vessel, rest) = cut_at(&sample, "groups = ");
+    let (_, rest) = cut_at(rest, "[[ref]]");
+    let (sensors, rest) = cut_at(rest, "[[thruster]]");
+    let (_, gains) = cut_at(rest, "[gains]");
+    let lines = [vessel, MASSES, "[[ref]]", sensors, TWELVE, "[gains]", gains];
+    Ok(text_of(alloc, &lines)?)
 }
 
 /// The groups, and what a unit of demand takes.
