@@ -1,149 +1,235 @@
-"""The program that faults.py tries, with files for it and faults that are ordered of its calls, and the count of what came."""
-import collections
-import fcntl
+#!/usr/bin/env python3
+"""Measures the built program beside a second one, on every kind of record. Builds nothing.
+
+    tools/bench.py [--goals] [--repeat N] [--cycles A,B] [--sentences A,B,..] PROGRAM SECOND
+
+PROGRAM and SECOND are built programs that answer the words of dp: this tree's, and one from before a change, or a plain one that does the same.
+Both have to answer alike. Told are, as a table with both and their ratio,
+
+- instructions a cycle, counted by callgrind: with three GGA, with nine lines, with nine lines of which the places are plain, and with nine lines and a
+  script that says `n usual` in each cycle. What a run costs at its start isn't in it: it is the difference of two runs of A and B cycles;
+- memory with a script of 65,536 lines `n usual`: the most that was resident while the record is still open;
+- the time of `check`, `make` and `trial`, the best of N runs of each program by turns (40);
+- time for a sentence and memory of records of A, B, .. sentences (20000,200000,2000000): a program that is linear takes the same for each.
+
+With --goals each line says too what is wanted, where SECOND is the program from before the change, and the exit status is 1 where one isn't reached.
+valgrind is wanted (Debian: apt install valgrind). It takes some ten minutes; numbers of time want an idle machine.
+
+Exit status: 0; 1 if the two answer differently, a goal isn't reached or a run fails; 2 if the words are wrong.
+"""
+import argparse
+import hashlib
 import os
-import resource
+import re
+import shutil
 import subprocess
+import sys
 import tempfile
+import time
 
-HERE = os.path.dirname(os.path.abspath(__file__))
-TOP = os.path.dirname(HERE)
-PAGE = 4096
-# The most that a run may take, in seconds: a busy machine is no fault.
-LIMIT = 1800
+sys.dont_write_bytecode = True
+sys.path.insert(0, os.path.join(os.path.dirname(os.path.realpath(__file__)), "lib"))
+import benchrecords  # noqa: E402
+
+TOP = os.path.dirname(os.path.dirname(os.path.realpath(__file__)))
+PLANT = os.path.join(TOP, "plants", "S1.toml")
+KINDS = [("three GGA", benchrecords.three_gga), ("nine lines", benchrecords.nine_lines), ("nine lines, plain places", benchrecords.plain_places)]
+ACTS = 65536
+SHORTER, EACH_SCRIPTED, MOST_KIB, SAME = 0.80, 1.1, 12 * 1024, 1.15
+FASTER = {"check": 0.6, "make": 0.5, "trial": 0.5}
 
 
-class Off(Exception):
-    """A run was not as it should be."""
+class Failed(Exception):
+    """A run didn't end as it should."""
 
 
-class Run:
-    """What a run came to: its status, what it wrote, and, where it was watched, whether main began and with how much of a stack, and its calls."""
+class Table:
+    """The lines that are told, and the goals that aren't reached."""
 
-    def __init__(self, status, out, told=None):
-        lines = (told or b"").split(b"\n")
-        self.status, self.out = status, out
-        self.began, self.grew = b"start" in lines, b"grown" in lines
-        self.is_not_begun = status in (126, 127) or told is not None and not self.began
-        counts = [line for line in lines if line[:1].isdigit()]
-        self.calls = dict(zip(["memory", "reads", "writes", "opens"], map(int, counts[0].split()))) if counts else {}
+    def __init__(self, with_goals):
+        self.with_goals, self.missed = with_goals, 0
+        self.say("| Measured | program | second | ratio |%s" % (" wanted |" if with_goals else ""))
+        self.say("|---|---|---|---|%s" % ("---|" if with_goals else ""))
+
+    def say(self, text):
+        print(text, flush=True)
+
+    def row(self, name, both, text, wanted="", is_good=True):
+        """A line: the numbers of both programs in a text's shape, their ratio, and what is wanted."""
+        ratio = "%.3f" % (both[0] / both[1]) if both[1] else "-"
+        line = "| %s | %s | %s | %s |" % (name, text % both[0], text % both[1], ratio)
+        if self.with_goals:
+            line += " %s%s |" % (wanted, "" if is_good else ": NOT REACHED")
+            self.missed += not is_good
+        self.say(line)
 
 
 class Bench:
-    """The program, a folder with files for it, and what was tried."""
+    """The two programs, and a folder for records and scripts."""
 
-    def __init__(self, program, folder):
-        self.program, self.folder = program, folder
-        self.faults = os.path.join(folder, "faults.so")
-        self.counts, self.offs, self.notes = collections.Counter(), [], []
-        self.rights = {}
-        os.chmod(folder, 0o755)
-        compiler = os.environ.get("CC", "cc")
-        subprocess.run([compiler, "-O1", "-shared", "-fPIC", "-o", self.faults, os.path.join(HERE, "faults.c")], check=True)
-        self.s1, self.s2 = os.path.join(TOP, "plants/S1.toml"), os.path.join(TOP, "plants/S2.toml")
-        self.three, self.station, self.acts = (
-            os.path.join(TOP, "samples", name) for name in ["three_cycles.txt", "station.txt", "faults.script"])
-        self.empty = self.file("empty.script", b"")
-        self.made = self.file("made.txt", self.start(["make", "0"]).communicate()[0])
-        self.rows = {
-            "replay of three cycles": ["replay", self.s1, self.three, self.empty],
-            "replay of the sample": ["replay", self.s1, self.station, self.acts],
-            "check": ["check", self.s1],
-            "check with a wave filter": ["check", self.s2],
-            "trial": ["trial", self.s1, "0"],
-        }
+    def __init__(self, said, folder):
+        self.programs, self.said, self.folder = [os.path.abspath(said.program), os.path.abspath(said.second)], said, folder
+        self.table = Table(said.goals)
 
-    def file(self, name, text):
+    def file(self, name, pieces):
         path = os.path.join(self.folder, name)
         with open(path, "wb") as file:
-            file.write(text)
+            for piece in pieces:
+                file.write(piece)
         return path
 
-    # ---- running
+    def run(self, words, **how):
+        done = subprocess.run(words, stdin=subprocess.DEVNULL, check=False, **how)
+        if done.returncode:
+            raise Failed("%s: status %d" % (" ".join(words), done.returncode))
+        return done
 
-    def start(self, words, faults=None, before=None, **how):
-        """Starts the program, with these faults ordered of its calls and these limits set before it begins."""
-        env = {"FAULTS_" + name: str(value) for name, value in (faults or {}).items()}
-        if faults is not None:
-            env["LD_PRELOAD"] = self.faults
-        how = {"stdin": subprocess.DEVNULL, "stdout": subprocess.PIPE, "stderr": subprocess.DEVNULL, **how}
-        return subprocess.Popen([self.program] + words, env=env, preexec_fn=before, **how)
+    # ---- both answer alike
 
-    def start_narrow(self, words, faults=None, **how):
-        """Starts the program with an output that holds a page until it is read: it has to wait in the midst of a long text."""
-        reader, writer = os.pipe()
-        fcntl.fcntl(writer, fcntl.F_SETPIPE_SZ, PAGE)
-        process = self.start(words, faults, stdout=writer, **how)
-        os.close(writer)
-        process.stdout = os.fdopen(reader, "rb")
-        return process
+    def compare(self):
+        script = self.file("some.script", [b"3 skew 1 1000000000 0\n5 stop 2\n"])
+        for name, kind in KINDS:
+            record = self.file("record", kind(0, 40))
+            for words in (["replay", PLANT, record, script], ["check", PLANT]):
+                marks = {hashlib.sha256(self.run([program] + words, stdout=subprocess.PIPE).stdout).digest() for program in self.programs}
+                if len(marks) > 1:
+                    raise Failed("the two programs answer differently: %s of %s" % (words[0], name))
 
-    def run(self, words, faults=None, before=None, **how):
-        """A run to its end."""
-        told = None
-        if faults is not None:
-            told = tempfile.TemporaryFile(dir=self.folder)
-            faults = {"TELL": told.fileno(), **faults}
-            how["pass_fds"] = (*how.get("pass_fds", ()), told.fileno())
+    # ---- instructions
+
+    def count(self, program, record, script):
+        """The instructions of a replay, by callgrind."""
+        words = ["valgrind", "--tool=callgrind", "--callgrind-out-file=/dev/null", program, "replay", PLANT, record, script]
+        done = self.run(words, stdout=subprocess.DEVNULL, stderr=subprocess.PIPE)
+        found = re.search(rb"Collected : ([0-9]+)", done.stderr)
+        if not found:
+            raise Failed("valgrind counted nothing: %s" % done.stderr[-200:].decode("latin-1"))
+        return int(found[1])
+
+    def a_cycle(self, program, kind, scripted):
+        """The instructions that a cycle more costs."""
+        short, long = self.said.cycles
+        counts = []
+        for cycles in (short, long):
+            script = self.file("usual.script", (b"%d usual\n" % cycle for cycle in range(cycles))) if scripted else "/dev/null"
+            counts.append(self.count(program, self.file("record", kind(0, cycles)), script))
+        return (counts[1] - counts[0]) / (long - short)
+
+    def instructions(self):
+        nine = None
+        for name, kind in KINDS:
+            both = [self.a_cycle(program, kind, False) for program in self.programs]
+            nine = both if kind is benchrecords.nine_lines else nine
+            self.table.row("instructions a cycle, %s" % name, both, "%.0f", "at most %.2f" % SHORTER, both[0] <= SHORTER * both[1])
+        both = [self.a_cycle(program, benchrecords.nine_lines, True) for program in self.programs]
+        part = both[0] / nine[0]
+        self.table.row("the same, nine lines, `n usual` in each cycle", both, "%.0f", "at most %.1f of the unscripted %.0f; it is %.3f" % (EACH_SCRIPTED, nine[0], part), part <= EACH_SCRIPTED)
+
+    # ---- memory
+
+    def resident(self, program, script, pieces):
+        """The most memory, in KiB, that was resident when all of a record was read and it is still open."""
+        process = subprocess.Popen([program, "replay", PLANT, "/dev/stdin", script], stdin=subprocess.PIPE, stdout=subprocess.DEVNULL)
         try:
-            process = self.start(words, faults, before, **how)
-        except OSError:
-            return Run(126, b"")
+            for piece in pieces:
+                process.stdin.write(piece)
+            process.stdin.flush()
+            most = self.settled(process)
+        finally:
+            process.stdin.close()
+        if process.wait():
+            raise Failed("%s: status %d" % (program, process.returncode))
+        return most
+
+    @staticmethod
+    def settled(process):
+        """The high-water mark, once the process waits for more to read."""
+        rests = 0
+        for _ in range(6000):
+            with open("/proc/%d/status" % process.pid, encoding="utf-8") as file:
+                status = file.read()
+            rests = rests + 1 if re.search(r"^State:\s+S", status, re.MULTILINE) else 0
+            if rests == 3:
+                return int(re.search(r"^VmHWM:\s+([0-9]+)", status, re.MULTILINE)[1])
+            time.sleep(0.01)
+        raise Failed("the process doesn't come to rest within a minute")
+
+    def memory(self):
+        script = self.file("many.script", (b"%d usual\n" % cycle for cycle in range(ACTS)))
+        both = [self.resident(program, script, benchrecords.nine_lines(0, 100)) for program in self.programs]
+        self.table.row("KiB resident with %d lines `n usual`" % ACTS, both, "%d", "below %d" % MOST_KIB, both[0] < MOST_KIB)
+
+    # ---- time
+
+    def took(self, program, words):
+        """Seconds from start to end, the output going nowhere."""
+        begin = time.perf_counter()
+        self.run([program] + words, stdout=subprocess.DEVNULL)
+        return time.perf_counter() - begin
+
+    def best(self, words, repeat):
+        """The best time of each program, by turns."""
+        times = [[self.took(program, words) for program in self.programs] for _ in range(repeat)]
+        return [min(column) for column in zip(*times)]
+
+    def times(self):
+        for words in (["check", PLANT], ["make", "0"], ["trial", PLANT, "0"]):
+            both = [1000 * seconds for seconds in self.best(words, self.said.repeat)]
+            wanted = FASTER[words[0]]
+            self.table.row("ms of `%s`, best of %d" % (words[0], self.said.repeat), both, "%.3f", "below %.1f" % wanted, both[0] < wanted * both[1])
+
+    def lengths(self):
+        """Time for a sentence and memory, record by record: neither may grow."""
+        before = None
+        for sentences in self.said.sentences:
+            cycles = -(-sentences // 9)
+            record = self.file("record", benchrecords.nine_lines(0, cycles))
+            repeat = max(1, min(5, 400000 // sentences))
+            both = [1e9 * seconds / (9 * cycles) for seconds in self.best(["replay", PLANT, record, "/dev/null"], repeat)]
+            kib = [self.resident(program, "/dev/null", benchrecords.nine_lines(0, cycles)) for program in self.programs]
+            good = before is None or both[0] <= SAME * before[0]
+            self.table.row("ns a sentence, %d sentences" % (9 * cycles), both, "%.0f", "not above %.2f of the record before" % SAME, good)
+            self.table.row("KiB resident, %d sentences" % (9 * cycles), kib, "%d", "the same within a twentieth", before is None or abs(kib[0] - before[1]) <= before[1] / 20)
+            before = both[0], kib[0]
+
+
+def numbers_of(least):
+    def read(text):
+        parts = text.split(",")
+        if not all(re.fullmatch("[1-9][0-9]{0,9}", part) for part in parts) or len(parts) < least or sorted(map(int, parts)) != list(map(int, parts)):
+            raise argparse.ArgumentTypeError("%r is no list of rising numbers" % text)
+        return list(map(int, parts))
+    return read
+
+
+def main():
+    parser = argparse.ArgumentParser(prog="bench.py", description=__doc__, formatter_class=argparse.RawDescriptionHelpFormatter)
+    parser.add_argument("--goals", action="store_true", help="judge too")
+    parser.add_argument("--repeat", type=int, default=40, metavar="N", help="runs of each command that is timed (40)")
+    parser.add_argument("--cycles", type=numbers_of(2), default=[1000, 3000], metavar="A,B", help="the cycles of the two runs that are counted (1000,3000)")
+    parser.add_argument("--sentences", type=numbers_of(1), default=[20000, 200000, 2000000], metavar="A,B,..", help="the lengths of records (20000,200000,2000000)")
+    parser.add_argument("program", metavar="PROGRAM")
+    parser.add_argument("second", metavar="SECOND")
+    said = parser.parse_args()
+    if len(said.cycles) != 2 or said.repeat < 1:
+        parser.error("--cycles wants two numbers, --repeat one from 1 on")
+    for name in (said.program, said.second):
+        if not os.path.isfile(name):
+            sys.exit("bench.py: %s isn't there" % name)
+    if not shutil.which("valgrind"):
+        sys.exit("bench.py: valgrind isn't there (Debian: apt install valgrind)")
+    with tempfile.TemporaryDirectory() as folder:
         try:
-            out = process.communicate(timeout=LIMIT)[0]
-        except subprocess.TimeoutExpired:
-            process.kill()
-            process.communicate()
-            raise Off("no end within %d seconds: %s" % (LIMIT, shown(words)))
-        if told is None:
-            return Run(process.returncode, out)
-        with told:
-            told.seek(0)
-            return Run(process.returncode, out, told.read())
-
-    def stack(self, words):
-        """The stack that the program needs, in bytes: up to 24 KiB too much, since where a stack begins is random."""
-        low, high = 0, 8 * 2 ** 20
-        while high - low > 2 * PAGE:
-            middle = (low + high) // 2 // PAGE * PAGE
-            if self.run(words, None, bound(resource.RLIMIT_STACK, middle)).status == 0:
-                high = middle
-            else:
-                low = middle
-        return high + 4 * PAGE
-
-    def right(self, words, texts=()):
-        """The status and text of a run without faults, over files with these texts behind the words."""
-        key = (tuple(words), tuple(texts))
-        if key in self.rights:
-            return self.rights[key]
-        names = [self.file("right%d" % at, text) for at, text in enumerate(texts)]
-        run = self.run(words + names)
-        if sum(map(len, texts)) < 10000:
-            self.rights[key] = run.status, run.out
-        return run.status, run.out
-
-    def right_of_record(self, text, script=b""):
-        return self.right(["replay", self.s1], [text, script])
-
-    # ---- judging
-
-    def count(self, run, is_good, what):
-        self.counts["not begun" if run.is_not_begun else run.status] += 1
-        if not is_good:
-            self.offs.append("%s: status %d, %d bytes, at the end %r" % (what, run.status, len(run.out or b""), (run.out or b"")[-60:]))
-
-    def must(self, run, status, text, what):
-        self.count(run, run.status == status and run.out == text, what)
+            bench = Bench(said, folder)
+            bench.compare()
+            bench.instructions()
+            bench.memory()
+            bench.times()
+            bench.lengths()
+        except (Failed, OSError) as refusal:
+            sys.exit("bench.py: %s" % refusal)
+    sys.exit(1 if bench.table.missed else 0)
 
 
-def shown(words):
-    return " ".join(os.path.basename(word) for word in words)
-
-
-def bound(limit, value):
-    return lambda: resource.setrlimit(limit, (value, value))
-
-
-def begins(text, whole):
-    return whole[: len(text)] == text
+if __name__ == "__main__":
+    main()

@@ -8,7 +8,7 @@ of a run without faults, or what such a fault may leave of it. Nothing written i
 in its first line; with none named all are tried. A line is printed for each kind: how many runs, and how many ended with each status (a signal
 is a negative status). The exit status is 1 where anything was off. No part of the gate.
 
-bench.py starts the program. faults.c, compiled by cc, stands in front of the C library of the program where single calls are to fail. Where this is run as root, a small
+faultruns.py starts the program. faults.c, compiled by cc, stands in front of the C library of the program where single calls are to fail. Where this is run as root, a small
 disk is mounted, and files without the right to read them are tried as the user nobody. It takes five to ten minutes.
 """
 import collections
@@ -26,7 +26,7 @@ import threading
 import time
 
 sys.dont_write_bytecode = True
-from bench import LIMIT, PAGE, Bench, Off, Run, begins, bound, shown  # noqa: E402
+from faultruns import LIMIT, PAGE, Bench, Off, Run, begins, bound, shown  # noqa: E402
 
 NOBODY = 65534
 MEMORY = b"fault memory\n"

@@ -179,6 +179,21 @@ def told_and_back(group, first, last):
     return (line for _, line in sorted(told))
 
 
+def told_late(group, first, sound):
+    """Tells that a group is lost: by a cut line in a cycle, and by a sound one in a later cycle."""
+    told = [(cycle * 1000 + 600, "%d grp%d %s" % (cycle * 1000 + 600, group, rest)) for cycle, rest in ((first, "0"), (sound, "G 0"))]
+    told += [(int(line.split(" ")[0]), line) for line in watch()]
+    return (line for _, line in sorted(told))
+
+
+def driven(ahead, starboard):
+    """The change of the places of a vessel that is driven off from cycle 8 on, by so many tenths of mm/s²; she points north."""
+    def changed(cycle, wire, rest, rng):
+        way = (cycle - FROM) ** 2
+        return moved(rest, ahead * way // 20, starboard * way // 20) if wire in POSITIONS and cycle >= FROM else rest
+    return changed
+
+
 def later(cycle, jump):
     """The watch with a clock that jumps ahead in a cycle, up to the same last cycle."""
     for line in watch():
@@ -233,6 +248,8 @@ FAILURES = {
                            + ["%d tell %d %d" % (cycle + 1, other, one) for other in others]]),
     "link_lost": (watch(), "The orders of computer 0 don't reach the voters of t0 and t2.",
                   each(FROM, TO, *RUNS, "order 0 1", "order 0 3", "order 0 4", "order 0 5", "orders 1", "orders 2")),
+    "voter_deaf": (watch(), "No order reaches the voter of t0.",
+                   each(FROM, TO, *RUNS, *["order %d %d" % (computer, thruster) for computer in range(3) for thruster in range(1, 6)])),
     "two_computers_lost": (watch(), "Computer 2 stops in cycle 8, and computer 1 in cycle 12.", ["8 stop 2", "8 usual", "12 stop 1", "12 usual"]),
     "computer_lost_and_one_false": (watch(), "Computer 2 stops in cycle 8. From cycle 12 on computer 1 says a false force to t0, before its own.",
                                     ["8 stop 2", "8 usual"] + each(12, 20, "say 1 0 100000", "usual")),
@@ -257,6 +274,11 @@ FAILURES = {
     "heading_lost": (watch(wrong(GYROS, silent)), "No fault: all gyros are silent from cycle 8 to 17.", []),
     "wind_lost": (watch(wrong(WINDS, silent)), "No fault: all wind sensors are silent from cycle 8 to 17.", []),
     "group_falsely_lost": (told_and_back(1, FROM, TO), "No fault: thruster group 1 is told lost in cycle 8, though it works, and ready in cycle 18.", []),
+    "group_line_damaged": (told_late(1, FROM, 12), "No fault: the line that tells of the loss of group 1 is cut in cycle 8, and comes sound in cycle 12.", []),
+    "group_loss_unreported": (watch(driven(-34, -37)),
+                              "No fault: group 1 is lost in cycle 8 and its line is silent; the vessel is driven off by the thrust that is missing.", []),
+    "thruster_full": (watch(driven(466, 0)),
+                      "No fault: the vessel runs off ahead from cycle 8 on, as one stern thruster at full force would drive her.", []),
     "clock_jumps": (later(12, 6000), "No fault: the record's clock jumps by six seconds in cycle 12.", []),
     "group_lost": (groups_lost({1: 8}), "No fault: thruster group 1 is told lost in cycle 8.", []),
     "groups_lost": (groups_lost({1: 8, 0: 14}), "No fault: thruster group 1 is told lost in cycle 8, and group 0 in cycle 14.", []),

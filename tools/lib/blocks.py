@@ -21,7 +21,7 @@ class Block:
 
 class Output:
     """Reads the blocks of a file's lines. `last` is the last line once all blocks were read, or None where the output is cut: then its last block
-    is left out, since nothing tells that it is whole."""
+    is left out, since nothing tells that it is whole. A last line without its end is cut too, and dropped with its block."""
 
     def __init__(self, name, lines):
         self.name, self.lines, self.number, self.last = name, lines, 0, None
@@ -34,9 +34,11 @@ class Output:
         block = None
         for line in self.lines:
             self.number += 1
-            line = line.rstrip("\r\n")
             if self.last is not None:
                 self.refuse("a line after the last one, %r" % self.last)
+            if not line.endswith("\n"):
+                return
+            line = line.rstrip("\r\n")
             if line.startswith("t"):
                 self.thruster(block, line)
             elif line.startswith("alarm "):

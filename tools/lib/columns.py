@@ -69,8 +69,9 @@ def thruster_columns(columns, thruster):
     return [columns.named(name % thruster).add for name in names]
 
 
-def take_output(columns, output):
-    """Takes the blocks; gives the number of cycles, how many ballots were of each kind, and the alarms in order."""
+def take_output(columns, output, stopped):
+    """Takes the blocks; gives the number of cycles, how many ballots were of each kind, and the alarms in order. `stopped` has for a cycle the
+    computers that the script stops in it for good: where one of them goes on, the script is another replay's."""
     counts, found, cycles = {"F": 0, "H": 0, "Z": 0}, {}, 0
     modes = [columns.named("mode%d" % computer).add for computer in range(3)]
     thrusters = []
@@ -78,6 +79,10 @@ def take_output(columns, output):
         cycles += 1
         for add, mode in zip(modes, block.modes):
             add(MODES[mode])
+        for computer in stopped.get(block.cycle, ()):
+            if block.modes[computer] != "O":
+                output.refuse("computer %d isn't off at the end of cycle %d, and the script stops it there: they aren't of one replay"
+                              % (computer, block.cycle))
         while len(thrusters) < len(block.thrusters):
             thrusters.append(thruster_columns(columns, len(thrusters)))
         for (add_ballot, add_force, *add_orders), (ballot, force, orders) in zip(thrusters, block.thrusters):
@@ -116,7 +121,7 @@ def take_record(columns, record, lines, cycles):
     changes, wires = [], {}
     for cycle, frame in record.frames(lines):
         if cycle >= cycles:
-            break
+            continue
         for wire, reading in frame.items():
             if wire.startswith("grp"):
                 changes.append([cycle, int(wire[3:]), reading])
@@ -127,3 +132,15 @@ def take_record(columns, record, lines, cycles):
                 column.fill(cycle)
                 column.add(number(reading))
     return changes
+
+
+def take_guide(columns, output, masses):
+    """Takes the lines of a guide: setpoints in tenths of a mm and hundredths of a degree, demands in N and N m; gives the number of cycles."""
+    adds = [columns.named(name).add for name in ("set_north", "set_east", "set_heading", "demand0", "demand1", "demand2")]
+    cycles = 0
+    for north, east, heading, *demands in output.cycles():
+        cycles += 1
+        forces = [demand * mass // 2 ** 20 for demand, mass in zip(demands, masses)]
+        for add, number in zip(adds, (tenths(north), tenths(east), heading // 10 ** 7, forces[0], forces[1], forces[2] // 1000)):
+            add(number)
+    return cycles

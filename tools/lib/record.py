@@ -2,6 +2,7 @@
 import re
 
 import sentences
+import stamps
 from local import Origin
 
 LINE = re.compile(rb"([0-9]{1,15}) ([^ ]+)(?: (.*))?", re.DOTALL)
@@ -94,14 +95,15 @@ def says(kind, rest, origin):
 
 
 class Record:
-    """Reads a record for a plant. `refusal` is the place and the cause where it ends before its end."""
+    """Reads a record for a plant. `refusal` is the line that ends it before its end, or None; `cycles` is how many cycles a replay plays of it, and
+    `utc` what the first sound GGA with a time says: its time in the record in ms, and its time of day in microseconds."""
 
     def __init__(self, plant):
         self.origin = Origin(*plant["plant"]["origin"])
         self.cycle_ms = plant["plant"]["cycle_ms"]
         self.kinds = {wire.encode(): (wire, sentences.kind_of(wire)) for wire in sentences.WIRES[:9 + plant["plant"]["groups"]]}
-        self.line = 0
-        self.refusal = None
+        self.line = self.cycles = 0
+        self.refusal = self.utc = None
 
     def frames(self, lines):
         """Each cycle that has lines, in order, with the last reading of each wire that has one."""
@@ -124,5 +126,13 @@ class Record:
             reading = says(known[1], found[3] or b"", self.origin)
             if reading is not None:
                 frame[known[0]] = reading
+                if self.utc is None and known[1] == "pos" and found[3][:1] == b"$":
+                    self.hear(before, found[3])
         if cycle is not None:
+            self.cycles = cycle + (self.refusal is None)
             yield cycle, frame
+
+    def hear(self, time, rest):
+        """Takes the time of a GGA, if it has one."""
+        day = stamps.utc_field(rest.split(b",", 2)[1])
+        self.utc = None if day is None else (time, day)

@@ -40,3 +40,15 @@ def formatter(text):
 def checked(body):
     """The sentence of a body, with its two digits."""
     return b"$%s*%02X" % (body, sum_of(body))
+
+
+def tag_block(text):
+    """What the TAG block at the end of a text says, by its letters: a table, None where there is no block, or False where its sum is wrong."""
+    end = text.rfind(b"\\")
+    start = text.rfind(b"\\", 0, end)
+    if end < 0 or start < 0 or text[end + 1:].strip():
+        return None if end < 0 else False
+    block = text[start + 1:end]
+    if block[-3:-2] != b"*" or DIGITS.get(block[-2:]) != sum_of(block[:-3]):
+        return False
+    return dict(part.split(b":", 1) for part in block[:-3].split(b",") if b":" in part)

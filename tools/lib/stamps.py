@@ -25,7 +25,7 @@ DATE_AND_TIME = re.compile(rb"(\d{4})[-/.]?(\d\d)[-/.]?(\d\d)[T _](\d\d):?(\d\d)
 AFTER_SECOND = re.compile(rb"(?:[.,](\d+))?(Z)?")
 TIME_OF_DAY = re.compile(rb"(\d\d):(\d\d):(\d\d)(?:[.,](\d+))?(?:\s*(?:Z|UTC))?")
 C_TIME = re.compile(rb"[A-Z][a-z][a-z] +([A-Z][a-z][a-z]) +(\d\d?) (\d\d):(\d\d):(\d\d)(?:\.(\d+))? (\d{4})")
-TAG_BLOCK = re.compile(rb".*\\(?:[^\\]*,)?c:(\d+)[,*][^\\]*\\", re.DOTALL)
+TAG_BLOCK = re.compile(rb".*\\(?:[^\\]*,)?c:(\d+)[,*][^\\]*\\", re.DOTALL)      # its sum is checked where the line is read
 UTC_FIELD = re.compile(rb"(\d\d)(\d\d)(\d\d)(?:\.(\d*))?")
 
 

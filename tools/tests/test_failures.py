@@ -54,15 +54,22 @@ class Document(unittest.TestCase):
                 for part in PARTS:
                     self.assertEqual(1, entry.count(part))
 
+    def test_each_failure_stands_in_the_table(self):
+        """One row a failure, in the entries' order, and none that is empty where it says what detects it and whether it can stay hidden."""
+        rows = re.findall(r"^\| \[[^|]*\(`([a-z_]+)`\) \| ([^|]+) \| ([^|]+) \|", text_of("docs", "FMEA.md"), re.MULTILINE)
+        self.assertEqual([name for name in self.entries if name != "none"], [row[0] for row in rows])
+        for name, *cells in rows:
+            self.assertTrue(all(cell.strip() for cell in cells), name)
+
     def test_clauses_are_in_the_guarantees(self):
-        guarantees = text_of("docs", "GUARANTEES.md")
+        guarantees = text_of("docs", "GUARANTEES.md") + text_of("docs", "CLAUSES.md")
         for name, entry in self.entries.items():
             with self.subTest(name):
                 covered = entry[entry.index(PARTS[2]):]
                 clauses = re.findall("`([a-z_:A-Z]+)`", covered)
                 self.assertTrue(clauses or "as above" in covered or "not promised" in covered)
                 for clause in clauses:
-                    self.assertIn(clause.split("::")[-1], guarantees)
+                    self.assertTrue(clause.split("::")[-1] in guarantees, clause)
 
 
 class Program(unittest.TestCase):

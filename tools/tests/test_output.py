@@ -1,6 +1,5 @@
-"""The readers of a replay's output and of a record, blocks2csv, and the words of the alarms."""
+"""The readers of a replay's output and of a record, blocks2csv, and the order of the alarms."""
 import io
-import re
 import tomllib
 import unittest
 
@@ -9,7 +8,7 @@ import blocks
 import columns
 from local import Origin
 from record import Record
-from support import ToolTest, at_root, text_of
+from support import ToolTest, at_root
 
 OUTPUT = """cycle 0 LLL
 t0 F 12 12 -7 12
@@ -38,6 +37,11 @@ class Blocks(unittest.TestCase):
         lines = OUTPUT.splitlines(keepends=True)
         for count in range(len(lines)):
             self.assertEqual(1 if count > 5 else 0, len(all_blocks("".join(lines[:count]))))
+
+    def test_a_line_without_its_end_is_dropped_with_its_block(self):
+        for place in range(len(OUTPUT)):
+            output = blocks.Output("out", io.StringIO(OUTPUT[:place]))
+            self.assertEqual((1 if place >= OUTPUT.index("cycle 1") + 12 else 0, None), (len(list(output.blocks())), output.last), place)
 
     def test_fault_line(self):
         output = blocks.Output("out", io.StringIO(OUTPUT.replace("end 2", "fault record 7 back 5000 4000")))
@@ -68,6 +72,9 @@ class Tables(ToolTest):
         self.assertTrue(self.tool("blocks2csv", "gone", "run", status=1)[1].startswith("blocks2csv: gone: No such file"))
         self.file("out", OUTPUT)
         self.assertIn("no/run-ballots.csv: No such file", self.tool("blocks2csv", "out", "no/run", status=1)[1])
+        for place in range(0, len(OUTPUT), 9):
+            self.file("cut", OUTPUT[:place])
+            self.assertIn("the last line is missing: the output is cut", self.tool("blocks2csv", "cut", "run")[1])
         self.tool("blocks2csv", status=2)
         self.assertIn("PREFIX-ballots.csv", self.tool("blocks2csv", "--help")[0])
 
@@ -99,13 +106,6 @@ class Records(unittest.TestCase):
 
 
 class Alarms(unittest.TestCase):
-    def test_words_are_those_of_the_formats(self):
-        table = re.findall(r"^\| `alarm ([^`]+)` \| (.*?) \| (.*?) \|$", text_of("docs", "FORMATS.md").replace("`surge`, `sway` or `yaw`", "surge, sway or yaw"),
-                           re.MULTILINE)
-        self.assertEqual(12, len(table))
-        for row in table:
-            self.assertIn(row, alarms.MEANINGS)
-
     def test_order_and_meaning(self):
         names = ["wind", "ref 1 stale", "ref 0 noisy", "consequence 1", "damage grp0", "unknown", "limit yaw", "ref 0 frozen"]
         self.assertEqual(["ref 0 frozen", "ref 0 noisy", "ref 1 stale", "damage grp0", "wind", "limit yaw", "consequence 1", "unknown"],

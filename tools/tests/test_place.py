@@ -5,6 +5,7 @@ import re
 import shutil
 import subprocess
 
+import placing
 from support import ToolTest, at_root, program, text_of
 
 
@@ -15,9 +16,11 @@ class Install(ToolTest):
             self.tool("install", "--program", stand_in, "place")
         place = os.path.join(self.folder, "place")
         self.assertEqual("here\n", subprocess.run([os.path.join(place, "bin", "dp")], capture_output=True, check=True).stdout.decode())
-        for tool in ("log2record", "look", "blocks2csv", "design", "capability"):
+        for tool in placing.TOOLS:
             subprocess.run([os.path.join(place, "bin", "dp-" + tool), "--help"], capture_output=True, check=True)
-        for file in ("share/man/man1/dp.1", "share/man/man1/dp-design.1", "share/dp/vessels/osv90.toml", "share/dp/plants/S1.toml", "share/dp/samples/log/pos0.log", "share/dp/docs/FORMATS.md"):
+        explained = subprocess.run([os.path.join(place, "bin", "dp-explain"), "plant"], capture_output=True, check=True).stdout.decode()
+        self.assertEqual("no fault: the program ends with `here`\n", explained)      # it finds the program beside it
+        for file in ("share/man/man1/dp.1", "share/man/man1/dp-explain.1", "share/bash-completion/completions/dp", "share/dp/VERSION", "share/dp/SECURITY.md", "share/dp/vessels/osv90.toml", "share/dp/plants/S1.toml", "share/dp/samples/log/pos0.log", "share/dp/docs/FORMATS.md"):
             self.assertTrue(os.path.isfile(os.path.join(place, file)), file)
 
     def test_refusals(self):
