@@ -42,8 +42,8 @@ class Table(unittest.TestCase):
     def test_parts(self):
         for line, anchor, parts in [
                 ("fault record 7 back 5000 4000", "fault-record-back", {"RECORD": "record", "LINE": "7", "BEFORE": "5000", "NOW": "4000"}),
-                ("fault second 3 long", "fault-record-long", {"RECORD": "second", "LINE": "3"}),
-                ("fault long second", "fault-long-second", {}), ("fault long cycles 1048576", "fault-long-cycles", {"CYCLE": "1048576"}),
+                ("fault record 3 long", "fault-record-long", {"RECORD": "record", "LINE": "3"}),
+                ("fault long script", "fault-long-script", {}), ("fault long cycles 1048576", "fault-long-cycles", {"CYCLE": "1048576"}),
                 ("fault plant missing case", "fault-plant-missing", {"KEY": "case"}),
                 ("fault gains vertex 1 0 2 77", "fault-gains-vertex", {"AXIS": "1", "VERTEX": "0", "ROW": "2", "SHORT": "77"})]:
             found, given = faultlines.found(line)
@@ -54,5 +54,5 @@ class Table(unittest.TestCase):
     def test_statuses(self):
         of = {one.anchor: one.status for one in faultlines.LINES}
         for anchor, status in [("fault-usage", 2), ("fault-read-script", 3), ("fault-plant-toml", 5), ("fault-gains-wide", 6), ("fault-record-unknown", 7),
-                               ("fault-script-order", 8), ("fault-memory", 9), ("fault-long-cycles", 10), ("fault-moves-range", 11)]:
+                               ("fault-script-order", 8), ("fault-memory", 9), ("fault-long-cycles", 10)]:
             self.assertEqual(status, of[anchor])
